@@ -1,0 +1,10 @@
+-- Laws of the definitions, by what they speak of. Assumes nothing.
+pub mod Runs
+pub mod Ascending
+pub mod Keys
+pub mod Joins
+pub mod Pigeons
+pub mod Rules
+pub mod Numbering
+pub mod Lookup
+pub mod Tables
