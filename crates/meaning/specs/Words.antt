@@ -33,27 +33,33 @@ abbrev pub findAt : List ℕ → Layout → ℕ → ℕ
 findAt t l x = word t (l .find + x)
 
 -- class record j: id, first node, node count
+abbrev pub recordWord : List ℕ → Layout → ℕ → ℕ → ℕ
+recordWord t l j f = word t (l .classes + j * l .width + f)
+
 abbrev pub idAt : List ℕ → Layout → ℕ → ℕ
-idAt t l j = word t (l .classes + j * l .width)
+idAt t l j = recordWord t l j 0
 
 abbrev pub firstAt : List ℕ → Layout → ℕ → ℕ
-firstAt t l j = word t (l .classes + j * l .width + 1)
+firstAt t l j = recordWord t l j 1
 
 abbrev pub countAt : List ℕ → Layout → ℕ → ℕ
-countAt t l j = word t (l .classes + j * l .width + 2)
+countAt t l j = recordWord t l j 2
 
 -- node i: operator, arity, first child, owning class
+abbrev pub nodeWord : List ℕ → Layout → ℕ → ℕ → ℕ
+nodeWord t l i f = word t (l .nodes + 4 * i + f)
+
 abbrev pub opAt : List ℕ → Layout → ℕ → ℕ
-opAt t l i = word t (l .nodes + 4 * i)
+opAt t l i = nodeWord t l i 0
 
 abbrev pub arityAt : List ℕ → Layout → ℕ → ℕ
-arityAt t l i = word t (l .nodes + 4 * i + 1)
+arityAt t l i = nodeWord t l i 1
 
 abbrev pub kidAt : List ℕ → Layout → ℕ → ℕ
-kidAt t l i = word t (l .nodes + 4 * i + 2)
+kidAt t l i = nodeWord t l i 2
 
 abbrev pub ownerAt : List ℕ → Layout → ℕ → ℕ
-ownerAt t l i = word t (l .nodes + 4 * i + 3)
+ownerAt t l i = nodeWord t l i 3
 
 abbrev pub childAt : List ℕ → Layout → ℕ → ℕ
 childAt t l x = word t (l .children + x)

@@ -9,7 +9,7 @@ use lib.Dec.{eqb, ltb}
 use lib.ListN.{length, getD, take, drop, length-take, length-drop}
 use lib.Seq.{getD-take, getD-drop}
 use native.Mathlib.Omega.{arith}
-use native.Mathlib.Nat.{zero-add}
+use native.Mathlib.Nat.{zero-add, mul-le-mul-right}
 use borrow.Author.Tests.{eqb-true, eq-eqb, ne-eqb, ltb-true, ltb-false}
 use Rattle.meaning.specs.declared.Layout.{Layout}
 use Rattle.meaning.specs.Tests.{Opt, none, some}
@@ -45,6 +45,10 @@ good-sound t g = record {
   nodes = g .nodes;
   index = g .index;
 }
+
+-- class record j is one of the class area's
+pub record-within : (j c w : ℕ) → j < c → j * w + w ≤ c * w
+record-within j c w h = let k = mul-le-mul-right w h in omega (arith, k)
 
 -- what stands in a part of a list
 mem-part : (n a : ℕ) (t : List ℕ) (c : ℕ) → Mem c (take n (drop a t)) → (x : ℕ) × (x < n) × (c ≡ getD t (a + x) 0)
