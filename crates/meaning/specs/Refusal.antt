@@ -72,8 +72,11 @@ module _ (t : List ℕ) (l : Layout) where
   unfoldable pub goodMembers : Bool
   goodMembers = and (allBelow goodMembersAt (l .c)) (eqb (endBefore (kidAt t l) (arityAt t l) (l .n)) (l .k))
 
+  unfoldable pub goodChildAt : ℕ → Bool
+  goodChildAt x = isCanonical (childAt t l x)
+
   unfoldable pub goodChildren : Bool
-  goodChildren = allBelow (λ x. isCanonical (childAt t l x)) (l .k)
+  goodChildren = allBelow goodChildAt (l .k)
 
   unfoldable pub goodNodes : Bool
   goodNodes = and goodMembers goodChildren

@@ -99,3 +99,6 @@ pub same-refl : (x : List ℕ) → sameList x x ≡ true
 unfolding sameList
 same-refl [] = refl
 same-refl (a ∷ x) = and-both (eq-eqb a a refl) (same-refl x)
+
+pub same-is : (x y : List ℕ) → x ≡ y → sameList x y ≡ true
+same-is x y e = rw e (same-refl y)

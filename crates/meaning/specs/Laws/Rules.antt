@@ -16,7 +16,7 @@ use Rattle.meaning.specs.Graph.{Node, less}
 use Rattle.meaning.specs.Ranges.{from, keep, endBefore}
 use Rattle.meaning.specs.Words.{word, layoutOf, findAt, idAt, firstAt, countAt, arityAt, kidAt, ownerAt, childAt, indexAt, nodeAt}
 use Rattle.meaning.specs.Good.{Limits, Shape, Joined, Canonical, FindRule, ClassRule, NodeRule, IndexRule}
-use Rattle.meaning.specs.Refusal.{goodLimits, goodShape, risesAt, isCanonical, goodFindAt, goodFind, canonicals, idsTo, goodIds, goodRangeAt, goodRanges, goodClasses, goodNodeAt, goodMemberAt, goodMembersAt, goodMembers, goodChildren, goodNodes, goodIndexAt, goodIndex}
+use Rattle.meaning.specs.Refusal.{goodLimits, goodShape, risesAt, isCanonical, goodFindAt, goodFind, canonicals, idsTo, goodIds, goodRangeAt, goodRanges, goodClasses, goodNodeAt, goodMemberAt, goodMembersAt, goodMembers, goodChildAt, goodChildren, goodNodes, goodIndexAt, goodIndex}
 use Rattle.meaning.specs.Laws.Runs.{from-mem, mem-from, map-length, map-at, mem-run, run-mem, keep-mem, mem-keep}
 use Rattle.meaning.specs.Laws.Ascending.{lt-lt, ascends-run, ascends-at, keep-ascends, rising-same}
 use Rattle.meaning.specs.Laws.Joins.{joined-within, joined-find}
@@ -58,6 +58,16 @@ joined first count n total h e = record { starts = λ i l. eqb-true _ _ (h i l);
 pub rises-step : (f : ℕ → Node) (x : ℕ) → risesAt f (suc x) ≡ true → less (f x) (f (suc x)) ≡ true
 unfolding risesAt
 rises-step f x h = h
+
+-- as the code steps back
+pub rises-back : (f : ℕ → Node) (x : ℕ) → (x ≡ 0 → ⊥) → risesAt f x ≡ less (f (x - 1)) (f x)
+unfolding risesAt
+rises-back f zero n = absurd (n refl)
+rises-back f (suc x) n = let e : suc x - 1 ≡ x = omega arith in rw e
+
+pub rises-first : (f : ℕ → Node) (x : ℕ) → x ≡ 0 → risesAt f x ≡ true
+unfolding risesAt
+rises-first f x e = rw e
 
 pub step-rises : (f : ℕ → Node) (n : ℕ) → ((x : ℕ) → suc x < n → less (f x) (f (suc x)) ≡ true) → (x : ℕ) → x < n → risesAt f x ≡ true
 unfolding risesAt
@@ -165,20 +175,20 @@ module _ (t : List ℕ) (l : Layout) where
     node-at r i b = let (j, k, c, d, e) = member r i b in rw e at (and-left _ _ (member-at j k c d))
 
     pub nodes : ClassRule t l → NodeRule t l
-    unfolding goodNodes goodMembers goodNodeAt goodMemberAt goodChildren
+    unfolding goodNodes goodMembers goodNodeAt goodMemberAt goodChildAt goodChildren
     nodes r = record {
       arity = λ i b. leb-true _ _ (and-left _ _ (node-at r i b));
       joined = joined (kidAt t l) (arityAt t l) (l .n) (l .k) (λ i b. and-left _ _ (and-right _ _ (node-at r i b))) (and-right _ _ (and-left _ _ h));
-      children = λ x b. canonical (childAt t l x) (all-at (λ x. isCanonical t l (childAt t l x)) (l .k) (and-right _ _ h) x b);
+      children = λ x b. canonical (childAt t l x) (all-at (goodChildAt t l) (l .k) (and-right _ _ h) x b);
       owner = λ j k b c. eqb-true _ _ (and-left _ _ (and-right _ _ (member-at j k b c)));
       rising = λ j k b c. rises-step (λ x. nodeAt t l (firstAt t l j + x)) k (and-right _ _ (and-right _ _ (member-at j (suc k) b c)));
     }
 
   pub is-nodes : ClassRule t l → NodeRule t l → goodNodes t l ≡ true
-  unfolding goodNodes goodMembers goodMembersAt goodNodeAt goodMemberAt goodChildren
+  unfolding goodNodes goodMembers goodMembersAt goodNodeAt goodMemberAt goodChildAt goodChildren
   is-nodes r s = and-both
       (and-both (all-of (goodMembersAt t l) (l .c) (λ j b. all-of (goodMemberAt t l j) (countAt t l j) (λ k c. member-good j k b c))) (eq-eqb _ _ (s .joined .ends)))
-      (all-of (λ x. isCanonical t l (childAt t l x)) (l .k) (λ x b. is-canonical _ (s .children x b)))
+      (all-of (goodChildAt t l) (l .k) (λ x b. is-canonical _ (s .children x b)))
     where
       node-good : (i : ℕ) → i < l .n → goodNodeAt t l i ≡ true
       node-good i b = unfold goodNodeAt in and-both (le-leb _ _ (s .arity i b)) (and-both (eq-eqb _ _ (s .joined .starts i b)) (le-leb _ _ (joined-within (s .joined) i b)))

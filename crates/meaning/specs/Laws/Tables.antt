@@ -17,7 +17,7 @@ use Rattle.meaning.specs.Lists.{All, nil, cons, all-of, NoDup, empty, mo
 use Rattle.meaning.specs.Ranges.{from}
 use Rattle.meaning.specs.Graph.{Graph, Node, Class, node, less, isKey, lookup, nodesOf, ids, allNodes, next, placeIn, WellFormed}
 use Rattle.meaning.specs.Words.{word, layoutOf, findAt, idAt, firstAt, countAt, opAt, arityAt, kidAt, ownerAt, childAt, indexAt, nodeAt, classAt, graphAt}
-use Rattle.meaning.specs.Good.{Joined, Canonical, FindRule, ClassRule, NodeRule, IndexRule, Good, Placed, Sound}
+use Rattle.meaning.specs.Good.{Limits, Shape, Joined, Canonical, FindRule, ClassRule, NodeRule, IndexRule, Good, Placed, Sound}
 use Rattle.meaning.specs.Laws.Runs.{from-length, from-mem, mem-from, map-length, mem-run, run-mem, run-once}
 use Rattle.meaning.specs.Laws.Ascending.{lt-lt, ascends-run, rises-past}
 use Rattle.meaning.specs.Laws.Keys.{less-irrefl, less-trans, key-is, is-key}
@@ -25,26 +25,24 @@ use Rattle.meaning.specs.Laws.Joins.{joined-within, joined-find, joined-
 use Rattle.meaning.specs.Laws.Pigeons.{all-there}
 use Rattle.meaning.specs.Laws.Lookup.{class-found, lookup-none, place-none}
 
+-- with right offsets the areas stand where the counts say
+pub placed : (t : List ℕ) → Limits t → Shape t → Placed t (layoutOf t)
+placed t a b = record {
+  ids = a .ids;
+  records = a .classes;
+  count = a .nodes;
+  kids = a .children;
+  wide = omega arith;
+  classes = refl;
+  nodes = omega arith;
+  children = refl;
+  index = refl;
+  long = b .long;
+}
+
 -- a good table is sound by its own layout
 pub good-sound : (t : List ℕ) → Good t → Sound t (layoutOf t)
-good-sound t g = record {
-  placed = let a = g .limits in let b = g .shape in record {
-    ids = a .ids;
-    records = a .classes;
-    count = a .nodes;
-    kids = a .children;
-    wide = omega arith;
-    classes = refl;
-    nodes = omega arith;
-    children = refl;
-    index = refl;
-    long = b .long;
-  };
-  find = g .find;
-  classes = g .classes;
-  nodes = g .nodes;
-  index = g .index;
-}
+good-sound t g = record { placed = placed t (g .limits) (g .shape); find = g .find; classes = g .classes; nodes = g .nodes; index = g .index }
 
 -- class record j is one of the class area's
 pub record-within : (j c w : ℕ) → j < c → j * w + w ≤ c * w
