@@ -76,6 +76,10 @@ placeIn o ks (n ∷ l) = cond (isKey o ks n) (some 0) (next (placeIn o ks l))
 unfoldable pub fits : ℕ → ℕ → Node → Bool
 fits o a n = and (eqb (n .op) o) (eqb (length (n .kids)) a)
 
+-- the node comes before the nodes with the operator and the arity
+unfoldable pub beforeBlock : ℕ → ℕ → Node → Bool
+beforeBlock o a n = smaller (n .op) o (ltb (length (n .kids)) a)
+
 -- what a good table's graph has, and all that the floors above use
 pub record WellFormed (g : Graph) : Type 0 where
   pub rising : Ascends (λ a b. a < b) (ids g)

@@ -2,6 +2,8 @@
 pub mod Runs
 pub mod Ascending
 pub mod Keys
+pub mod Bisection
+pub mod Blocks
 pub mod Joins
 pub mod Pigeons
 pub mod Rules

@@ -18,3 +18,8 @@ keep p (a ∷ l) = let r = keep p l in cond (p a) (a ∷ r) r
 unfoldable pub endBefore : (ℕ → ℕ) → (ℕ → ℕ) → ℕ → ℕ
 endBefore first count zero = 0
 endBefore first count (suc i) = first i + count i
+
+-- how many of p 0, p 1, .. hold before the first that does not, at most n
+unfoldable pub leading : (ℕ → Bool) → ℕ → ℕ
+leading p zero = 0
+leading p (suc n) = let r = leading (λ k. p (suc k)) n in cond (p 0) (suc r) 0

@@ -23,7 +23,7 @@ pub smaller-eq : (a b : ℕ) (r : Bool) → a ≡ b → smaller a b r ≡ r
 unfolding smaller
 smaller-eq a b r e = let l : b ≤ a = omega arith in let m : a ≤ b = omega arith in rw (le-ltb a b l, le-ltb b a m)
 
-smaller-cases : (a b : ℕ) (r : Bool) → smaller a b r ≡ true → (a < b) ⊎ ((a ≡ b) × (r ≡ true))
+pub smaller-cases : (a b : ℕ) (r : Bool) → smaller a b r ≡ true → (a < b) ⊎ ((a ≡ b) × (r ≡ true))
 unfolding smaller
 smaller-cases a b r h = go (ltb a b) refl (ltb b a) refl h
   where

@@ -154,15 +154,16 @@ module _ {t : List ℕ} {l : Layout} (s : Sound t l) where
   nodes-once : NoDup (map (nodeAt t l) (from 0 (l .n)))
   nodes-once = run-once (nodeAt t l) (l .n) node-once
 
+  -- of two records, the later has the greater id
+  pub ids-rise : (x y : ℕ) → x < y → y < l .c → idAt t l x < idAt t l y
+  ids-rise = rises-past {R = λ a b. a < b} lt-lt (idAt t l) (l .c) (s .classes .rising)
+
   pub ids-apart : (x y : ℕ) → x < l .c → y < l .c → idAt t l x ≡ idAt t l y → x ≡ y
   ids-apart x y a b e = go (ltb x y) refl (ltb y x) refl
     where
-      rise : (x y : ℕ) → x < y → y < l .c → idAt t l x < idAt t l y
-      rise = rises-past {R = λ a b. a < b} lt-lt (idAt t l) (l .c) (s .classes .rising)
-
       go : (p : Bool) → ltb x y ≡ p → (q : Bool) → ltb y x ≡ q → x ≡ y
-      go true p q r = absurd (let z = rise x y (ltb-true x y p) b in omega arith)
-      go false p true r = absurd (let z = rise y x (ltb-true y x r) a in omega arith)
+      go true p q r = absurd (let z = ids-rise x y (ltb-true x y p) b in omega arith)
+      go false p true r = absurd (let z = ids-rise y x (ltb-true y x r) a in omega arith)
       go false p false r = let u = ltb-false x y p in let v = ltb-false y x r in omega arith
 
   -- the nodes of class record j
@@ -189,6 +190,11 @@ module _ {t : List ℕ} {l : Layout} (s : Sound t l) where
   -- the children of node i are in the children area
   pub kids-within : (i : ℕ) → i < l .n → kidAt t l i + arityAt t l i ≤ l .k
   kids-within i h = joined-within (s .nodes .joined) i h
+
+  -- and as many as its arity
+  pub node-arity : (i : ℕ) → i < l .n → length (nodeAt t l i .kids) ≡ arityAt t l i
+  unfolding nodeAt
+  node-arity i h = let w = kids-within i h in let p = s .placed in simp (length-take, length-drop) (omega arith)
 
   pub kid-canonical : (i : ℕ) → i < l .n → (c : ℕ) → Mem c (nodeAt t l i .kids) → Canonical t l c
   unfolding nodeAt

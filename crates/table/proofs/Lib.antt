@@ -1,0 +1,4 @@
+pub mod Bisect
+pub mod Blocks
+pub mod Classes
+pub mod Keys
