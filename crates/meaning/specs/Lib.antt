@@ -6,6 +6,7 @@ pub mod Graph
 pub mod Words
 pub mod Good
 pub mod Refusal
+pub mod Entries
 pub mod Numbers
 -- their laws
 pub mod Laws

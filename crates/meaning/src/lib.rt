@@ -17,3 +17,10 @@ pub struct Layout {
     pub children: usize,
     pub index: usize,
 }
+
+// What an entry answers: document 01's number, and the rows written, or the class, or 0.
+#[repr(C)]
+pub struct Answer {
+    pub number: u32,
+    pub count: u64,
+}
