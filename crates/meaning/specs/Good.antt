@@ -6,7 +6,7 @@ use mathlib.Core.List.{List}
 use lib.ListN.{length}
 use Rattle.meaning.specs.declared.Layout.{Layout}
 use Rattle.meaning.specs.Graph.{less}
-use Rattle.meaning.specs.Ranges.{endBefore}
+use Rattle.meaning.specs.Ranges.{endFrom}
 use Rattle.meaning.specs.Words.{word, layoutOf, findAt, idAt, firstAt, countAt, arityAt, kidAt, ownerAt, childAt, indexAt, nodeAt}
 
 -- the counts are within their limits
@@ -25,10 +25,13 @@ pub record Shape (t : List ℕ) : Type 0 where
   pub index : word t 8 ≡ layoutOf t .index
   pub long : length t ≡ layoutOf t .index + word t 2
 
--- each range starts where the one before it ends, from 0 to the total
-pub record Joined (first count : ℕ → ℕ) (n total : ℕ) : Type 0 where
-  pub starts : (i : ℕ) → i < n → first i ≡ endBefore first count i
-  pub ends : endBefore first count n ≡ total
+-- each range starts where the one before it ends, from the base to the total
+pub record JoinedFrom (base : ℕ) (first count : ℕ → ℕ) (n total : ℕ) : Type 0 where
+  pub starts : (i : ℕ) → i < n → first i ≡ endFrom base first count i
+  pub ends : endFrom base first count n ≡ total
+
+abbrev pub Joined : (ℕ → ℕ) → (ℕ → ℕ) → ℕ → ℕ → Type 0
+Joined = JoinedFrom 0
 
 module _ (t : List ℕ) (l : Layout) where
   pub record Canonical (x : ℕ) : Type 0 where

@@ -9,4 +9,6 @@ pub mod Pigeons
 pub mod Rules
 pub mod Numbering
 pub mod Lookup
+pub mod PatternRules
+pub mod PatternNumbering
 pub mod Tables

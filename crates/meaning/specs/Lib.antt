@@ -6,6 +6,10 @@ pub mod Graph
 pub mod Words
 pub mod Good
 pub mod Refusal
+pub mod Pattern
+pub mod PatternWords
+pub mod GoodPattern
+pub mod PatternRefusal
 pub mod Entries
 pub mod Numbers
 -- their laws

@@ -7,7 +7,7 @@ use lib.Dec.{eqb}
 use lib.ListN.{set, take}
 use Rattle.meaning.specs.Tests.{and, allBelow, sameList}
 use Rattle.meaning.specs.Graph.{smaller, lessKids, less}
-use Rattle.meaning.specs.Ranges.{from, keep, endBefore}
+use Rattle.meaning.specs.Ranges.{from, keep, endFrom, endBefore}
 use Rattle.meaning.specs.Words.{nodeAt}
 use Rattle.meaning.specs.Refusal.{goodLimits, goodShape, risesAt, isCanonical, goodFindAt, goodFind, canonicals, idsTo, goodIds, goodRangeAt, goodRanges, goodClasses, goodNodeAt, goodMemberAt, goodMembersAt, goodMembers, goodChildAt, goodChildren, goodNodes, goodIndexAt, goodIndex, areasRefusal, refusalOf}
 
@@ -64,5 +64,5 @@ tables =
     ∷ []
 
 pub claim : allRight tables ≡ true
-unfolding T Loop Empty tables allRight and allBelow sameList smaller lessKids less from keep endBefore nodeAt goodLimits goodShape risesAt isCanonical goodFindAt goodFind canonicals idsTo goodIds goodRangeAt goodRanges goodClasses goodNodeAt goodMemberAt goodMembersAt goodMembers goodChildAt goodChildren goodNodes goodIndexAt goodIndex areasRefusal refusalOf
+unfolding T Loop Empty tables allRight and allBelow sameList smaller lessKids less from keep endFrom nodeAt goodLimits goodShape risesAt isCanonical goodFindAt goodFind canonicals idsTo goodIds goodRangeAt goodRanges goodClasses goodNodeAt goodMemberAt goodMembersAt goodMembers goodChildAt goodChildren goodNodes goodIndexAt goodIndex areasRefusal refusalOf
 claim = refl

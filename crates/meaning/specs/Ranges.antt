@@ -14,10 +14,13 @@ unfoldable pub keep : {A : Type 0} → (A → Bool) → List A → List A
 keep p [] = []
 keep p (a ∷ l) = let r = keep p l in cond (p a) (a ∷ r) r
 
--- where the range before the i-th ends: 0 before the first
-unfoldable pub endBefore : (ℕ → ℕ) → (ℕ → ℕ) → ℕ → ℕ
-endBefore first count zero = 0
-endBefore first count (suc i) = first i + count i
+-- where the range before the i-th ends: at the base before the first
+unfoldable pub endFrom : ℕ → (ℕ → ℕ) → (ℕ → ℕ) → ℕ → ℕ
+endFrom base first count zero = base
+endFrom base first count (suc i) = first i + count i
+
+abbrev pub endBefore : (ℕ → ℕ) → (ℕ → ℕ) → ℕ → ℕ
+endBefore = endFrom 0
 
 -- how many of p 0, p 1, .. hold before the first that does not, at most n
 unfoldable pub leading : (ℕ → Bool) → ℕ → ℕ

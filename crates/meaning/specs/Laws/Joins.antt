@@ -8,16 +8,16 @@ use lib.Dec.{ltb}
 use borrow.Author.Tests.{ltb-true, ltb-false}
 use native.Mathlib.Omega.{arith}
 use native.Mathlib.Numerals.{add-one}
-use Rattle.meaning.specs.Ranges.{from, endBefore}
-use Rattle.meaning.specs.Good.{Joined}
+use Rattle.meaning.specs.Ranges.{from, endFrom, endBefore}
+use Rattle.meaning.specs.Good.{JoinedFrom, Joined}
 use Rattle.meaning.specs.Laws.Runs.{from-more, map-add}
 
-module _ {first count : ℕ → ℕ} {n total : ℕ} (j : Joined first count n total) where
-  ends-step : (i : ℕ) → i < n → endBefore first count i ≤ endBefore first count (suc i)
-  unfolding endBefore
+module _ {base : ℕ} {first count : ℕ → ℕ} {n total : ℕ} (j : JoinedFrom base first count n total) where
+  ends-step : (i : ℕ) → i < n → endFrom base first count i ≤ endFrom base first count (suc i)
+  unfolding endFrom
   ends-step i h = let e = j .starts i h in omega arith
 
-  ends-rise : (i d : ℕ) → i + d ≤ n → endBefore first count i ≤ endBefore first count (i + d)
+  ends-rise : (i d : ℕ) → i + d ≤ n → endFrom base first count i ≤ endFrom base first count (i + d)
   ends-rise i zero h = let e : i + 0 ≡ i = omega arith in rw e (omega arith)
   ends-rise i (suc d) h =
       let p = ends-rise i d (omega arith) in
@@ -25,15 +25,15 @@ module _ {first count : ℕ → ℕ} {n total : ℕ} (j : Joined first count n t
       let e : i + suc d ≡ suc (i + d) = omega arith in
       rw e (omega arith)
 
-  pub ends-within : (i : ℕ) → i ≤ n → endBefore first count i ≤ total
+  pub ends-within : (i : ℕ) → i ≤ n → endFrom base first count i ≤ total
   ends-within i h =
       let e : i + (n - i) ≡ n = omega arith in
       let p = ends-rise i (n - i) (omega arith) in
-      let q : endBefore first count (i + (n - i)) ≡ endBefore first count n = ap (endBefore first count) e in
+      let q : endFrom base first count (i + (n - i)) ≡ endFrom base first count n = ap (endFrom base first count) e in
       let r = j .ends in omega arith
 
   pub joined-within : (i : ℕ) → i < n → first i + count i ≤ total
-  unfolding endBefore
+  unfolding endFrom
   joined-within i h = ends-within (suc i) h
 
 -- without the last
@@ -42,7 +42,7 @@ joined-less {n = n} j = record { starts = λ i h. j .starts i (omega arith); end
 
 -- the range of a place
 pub joined-find : {first count : ℕ → ℕ} (n total : ℕ) → Joined first count n total → (x : ℕ) → x < total → (i : ℕ) × (i < n) × (first i ≤ x) × (x < first i + count i)
-unfolding endBefore
+unfolding endFrom
 joined-find zero total j x h = let e = j .ends in absurd (omega arith)
 joined-find {first} {count} (suc n) total j x h = go (ltb x (first n)) refl (λ l. joined-find n (first n) (joined-less j) x l)
   where
@@ -58,7 +58,7 @@ flat-append f (a ∷ x) y = ap (λ l. f a ++ l) (flat-append f x y) ∙ sym (app
 -- the ranges' runs, one after the other, are the run to the total
 pub joined-run : {A : Type 0} (g : ℕ → A) {first count : ℕ → ℕ} (n total : ℕ) → Joined first count n total
     → flatMap (λ i. map g (from (first i) (count i))) (from 0 n) ≡ map g (from 0 total)
-unfolding endBefore flatMap from
+unfolding endFrom flatMap from
 joined-run g zero total j = rw (sym (j .ends))
 joined-run {A} g {first} {count} (suc n) total j =
     let e = add-one n in
