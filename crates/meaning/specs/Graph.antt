@@ -47,7 +47,7 @@ hasKey o ks [] = false
 hasKey o ks (n ∷ l) = cond (isKey o ks n) true (hasKey o ks l)
 
 -- the class of the one node o(ks), or nothing
-unfoldable pub lookup : Graph → ℕ → List ℕ → Opt
+unfoldable pub lookup : Graph → ℕ → List ℕ → Opt ℕ
 lookup [] o ks = none
 lookup (c ∷ g) o ks = cond (hasKey o ks (c .nodes)) (some (c .id)) (lookup g o ks)
 
@@ -63,12 +63,12 @@ ids g = map (λ c. c .id) g
 unfoldable pub allNodes : Graph → List Node
 allNodes g = flatMap (λ c. c .nodes) g
 
-unfoldable pub next : Opt → Opt
+unfoldable pub next : Opt ℕ → Opt ℕ
 next none = none
 next (some n) = some (suc n)
 
 -- the number of the first node o(ks) of the list, or nothing
-unfoldable pub placeIn : ℕ → List ℕ → List Node → Opt
+unfoldable pub placeIn : ℕ → List ℕ → List Node → Opt ℕ
 placeIn o ks [] = none
 placeIn o ks (n ∷ l) = cond (isKey o ks n) (some 0) (next (placeIn o ks l))
 

@@ -12,3 +12,5 @@ pub mod Lookup
 pub mod PatternRules
 pub mod PatternNumbering
 pub mod Tables
+pub mod Built
+pub mod Instances

@@ -10,7 +10,13 @@ pub mod Pattern
 pub mod PatternWords
 pub mod GoodPattern
 pub mod PatternRefusal
+pub mod Instance
+pub mod Program
+pub mod Compiler
+pub mod Matching
+pub mod Multi
 pub mod Entries
 pub mod Numbers
 -- their laws
 pub mod Laws
+pub mod Search

@@ -1,6 +1,6 @@
 -- Tests that compute, and the facts that they stand for. Assumes nothing.
 use Prim.Native.Nat.{ℕ, zero, suc, _+_, _<_, _≤_}
-use mathlib.Core.Path.{_≡_, refl, sym, _∙_}
+use mathlib.Core.Path.{_≡_, refl, sym, ap, _∙_}
 use mathlib.Core.List.{List, [], _∷_}
 use mathlib.Core.Bool.{Bool, true, false, cond}
 use mathlib.Core.Logic.{_⊎_, inl, inr, ⊎-elim}
@@ -10,10 +10,10 @@ use native.Mathlib.Nat.{eq-or-lt-of-le, le-of-suc-le-suc}
 use lib.Dec.{eqb}
 use borrow.Author.Tests.{eqb-true, eq-eqb}
 
--- a class, or nothing
-pub data Opt : Type 0 where
-  none : Opt
-  some : ℕ → Opt
+-- something, or nothing
+pub data Opt (A : Type 0) : Type 0 where
+  none : Opt A
+  some : A → Opt A
 
 unfoldable pub and : Bool → Bool → Bool
 and true b = b
@@ -102,3 +102,17 @@ same-refl (a ∷ x) = and-both (eq-eqb a a refl) (same-refl x)
 
 pub same-is : (x y : List ℕ) → x ≡ y → sameList x y ≡ true
 same-is x y e = rw e (same-refl y)
+
+-- the answer is the class c
+unfoldable pub isClass : Opt ℕ → ℕ → Bool
+isClass none c = false
+isClass (some d) c = eqb d c
+
+pub class-true : (o : Opt ℕ) (c : ℕ) → isClass o c ≡ true → o ≡ some c
+unfolding isClass
+class-true none c h = cc
+class-true (some d) c h = ap some (eqb-true d c h)
+
+pub class-is : (o : Opt ℕ) (c : ℕ) → o ≡ some c → isClass o c ≡ true
+unfolding isClass
+class-is o c e = rw e (eq-eqb c c refl)

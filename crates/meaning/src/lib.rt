@@ -3,6 +3,9 @@
 // A class id.
 pub struct Id(pub u32);
 
+// A register's number, never taken for a class id.
+pub struct Reg(pub u32);
+
 // Where the areas of a table stand, read once: document 01's counts I, C, N and K, the five
 // starts, and the words of a class record.
 pub struct Layout {

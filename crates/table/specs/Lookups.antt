@@ -19,17 +19,17 @@ numberOf (At i c) = 0
 numberOf Nothing = 18
 
 -- the node's class
-abbrev pub classOf : Found → Opt
+abbrev pub classOf : Found → Opt ℕ
 classOf (At i c) = some (c .0)
 classOf Nothing = none
 
 -- the node's number
-abbrev pub placeOf : Found → Opt
+abbrev pub placeOf : Found → Opt ℕ
 placeOf (At i c) = some i
 placeOf Nothing = none
 
 -- both or nothing
-unfoldable pub found : Opt → Opt → Found
+unfoldable pub found : Opt ℕ → Opt ℕ → Found
 found none c = Nothing
 found (some i) none = Nothing
 found (some i) (some c) = At i (record { 0 = c })

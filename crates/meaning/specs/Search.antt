@@ -1,0 +1,23 @@
+-- Why the rows are the matches: from the compiler's steps to demands 2 and 3. Assumes nothing.
+-- statements
+pub mod Listing
+pub mod Order
+pub mod Solve
+-- laws
+pub mod Rowlaws
+pub mod Fits
+pub mod Moves
+pub mod Central
+pub mod Bindings
+pub mod Measure
+pub mod Steps
+pub mod Compiled
+-- theorems
+pub mod Theorem
+pub mod Whole
+pub mod Covers
+pub mod Paths
+pub mod Growth
+pub mod MultiTheorem
+pub mod MultiGrowth
+pub mod MultiCovers
