@@ -12,6 +12,7 @@ pub mod Bindings
 pub mod Measure
 pub mod Steps
 pub mod Compiled
+pub mod Choice
 -- theorems
 pub mod Theorem
 pub mod Whole

@@ -32,7 +32,7 @@ smaller-cases a b r h = go (ltb a b) refl (ltb b a) refl h
     go false e true f h = apart (sym h)
     go false e false f h = let p = ltb-false a b e in let q = ltb-false b a f in inr (omega arith, h)
 
-smaller-trans : (a b c : ℕ) (r s q : Bool) → (r ≡ true → s ≡ true → q ≡ true) → smaller a b r ≡ true → smaller b c s ≡ true → smaller a c q ≡ true
+pub smaller-trans : (a b c : ℕ) (r s q : Bool) → (r ≡ true → s ≡ true → q ≡ true) → smaller a b r ≡ true → smaller b c s ≡ true → smaller a c q ≡ true
 smaller-trans a b c r s q t h k = go (smaller-cases a b r h) (smaller-cases b c s k)
   where
     go : (a < b) ⊎ ((a ≡ b) × (r ≡ true)) → (b < c) ⊎ ((b ≡ c) × (s ≡ true)) → smaller a c q ≡ true
