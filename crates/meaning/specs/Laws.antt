@@ -9,6 +9,7 @@ pub mod Pigeons
 pub mod Rules
 pub mod Numbering
 pub mod Lookup
+pub mod Masks
 pub mod PatternRules
 pub mod PatternNumbering
 pub mod Tables

@@ -13,6 +13,8 @@ pub mod Measure
 pub mod Steps
 pub mod Compiled
 pub mod Choice
+pub mod Running
+pub mod Bounds
 -- theorems
 pub mod Theorem
 pub mod Whole

@@ -6,4 +6,5 @@ pub mod meaning;
 pub mod multi;
 pub mod pattern;
 pub mod run;
+pub mod search;
 pub mod table;

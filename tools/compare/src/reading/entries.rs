@@ -3,13 +3,11 @@
 use super::compile::compile;
 use super::meaning::instance;
 use super::multi::{self, Part};
-use super::run::{Flow, Search};
+use super::run::Flow;
+use super::search::{self, is_search};
 use super::table::{self, require, Node};
 use super::{meaning, pattern};
 use crate::case::{Answer, Case, Entry};
-
-/// The steps after which a search is given up.
-pub const MAX_STEPS: u64 = 300_000;
 
 /// What the entry must answer; nothing if the search takes too many steps.
 pub fn answer(case: &Case) -> Option<Answer> {
@@ -17,14 +15,14 @@ pub fn answer(case: &Case) -> Option<Answer> {
     let (slices, numbers) = (&case.slices, &case.numbers);
     let result = match case.entry {
         Entry::CheckTable => table::read(&slices[0]).map(|_| Some(0)),
-        Entry::SearchClass => search(slices, false, Some(numbers[0]), numbers[1] != 0, numbers[2], &mut rows),
-        Entry::SearchTable => search(slices, false, None, numbers[0] != 0, numbers[1], &mut rows),
-        Entry::SearchClassMulti => search(slices, true, Some(numbers[0]), numbers[1] != 0, numbers[2], &mut rows),
-        Entry::SearchTableMulti => search(slices, true, None, numbers[0] != 0, numbers[1], &mut rows),
         Entry::DryApply => dry_apply(slices).map(Some),
         Entry::CheckMap => check_map(slices).map(|_| Some(0)),
         Entry::CheckRule => check_rule(slices, numbers[0] != 0, numbers[1] != 0).map(|_| Some(0)),
         Entry::Program => program(&slices[0], numbers[0] != 0, &mut rows),
+        entry => {
+            assert!(is_search(entry));
+            search(case, &mut rows)
+        }
     };
     let (number, count) = match result {
         Ok(count) => (0, count?),
@@ -51,42 +49,23 @@ impl Rows {
     }
 }
 
-/// A search of one class, or of the whole table if none is given; no count if it takes too many steps.
-fn search(
-    slices: &[Vec<u32>],
-    is_multi: bool,
-    class: Option<u64>,
-    cycles_allowed: bool,
-    limit: u64,
-    rows: &mut Rows,
-) -> Result<Option<u64>, u32> {
-    let table = table::read(&slices[0])?;
-    let parts = multi::read_left(&slices[1], is_multi)?;
-    if let Some(id) = class {
-        require(table.is_canonical(id as u32), 12)?;
+/// The count of a search's rows, as many as the limit allows; none if it takes too many steps.
+fn search(case: &Case, rows: &mut Rows) -> Result<Option<u64>, u32> {
+    let opened = search::open(case)?;
+    if opened.limit == 0 {
+        return Ok(Some(0));
     }
-    let classes: Vec<u32> = match class {
-        Some(id) => vec![id as u32],
-        None => table.classes.iter().map(|class| class.id).collect(),
-    };
-    let program = compile(&parts);
-    let mut search = Search { table: &table, parts: &parts, program: &program, cycles_allowed, steps_left: MAX_STEPS };
-    for id in classes {
-        let first: &[u32] = if class.is_none() { &[id] } else { &[] };
-        let mut fitted = Ok(());
-        if rows.count < limit {
-            search.each_row(id, &mut |row| {
-                fitted = rows.push(&[first, row].concat());
-                if fitted.is_ok() && rows.count < limit {
-                    Flow::On
-                } else {
-                    Flow::Stop
-                }
-            });
+    let mut fitted = Ok(());
+    let ended = opened.each_row(&mut |row| {
+        fitted = rows.push(row);
+        if fitted.is_ok() && rows.count < opened.limit {
+            Flow::On
+        } else {
+            Flow::Stop
         }
-        fitted?;
-    }
-    Ok(Some(rows.count).filter(|_| search.steps_left > 0))
+    });
+    fitted?;
+    Ok(ended.then_some(rows.count))
 }
 
 /// The class of the pattern's root under the lists.
@@ -108,7 +87,7 @@ fn check_map(slices: &[Vec<u32>]) -> Result<(), u32> {
     let map = &slices[2];
     require(map.len() == first.classes.len(), 15)?;
     require(map.iter().all(|id| second.is_canonical(*id)), 16)?;
-    let image = |id: &u32| map[first.classes.iter().position(|class| class.id == *id).expect("a class")];
+    let image = |id: &u32| map[first.place(*id)];
     for class in &first.classes {
         for node in &class.nodes {
             let children = node.children.iter().map(image).collect();
@@ -118,20 +97,20 @@ fn check_map(slices: &[Vec<u32>]) -> Result<(), u32> {
     Ok(())
 }
 
-/// Whether every variable of the right side's patterns is on the left, where binders count too.
+/// Whether the left side lacks no variable of the right.
 fn check_rule(slices: &[Vec<u32>], left_is_multi: bool, right_is_multi: bool) -> Result<(), u32> {
     let left = multi::read_left(&slices[0], left_is_multi)?;
     let right = multi::read_right(&slices[1], right_is_multi)?;
-    let bound = meaning::variables(&left);
-    require(right_variables(&right).all(|v| bound.contains(&v)), 14)
+    require(lacking(&left, &right).is_empty(), 14)
 }
 
-/// The variables of a right side: those of its patterns, binders not counted.
-fn right_variables(right: &[Part]) -> impl Iterator<Item = u32> + '_ {
-    right.iter().flat_map(|part| part.pattern.variables())
+/// The variables of the right side's patterns that the left lacks; binders count on the left only.
+pub fn lacking(left: &[Part], right: &[Part]) -> Vec<u32> {
+    let bound = meaning::variables(left);
+    right.iter().flat_map(|part| part.pattern.variables()).filter(|v| !bound.contains(v)).collect()
 }
 
-/// The program's instructions, five words each.
+/// The count of the program's instructions, five words each.
 fn program(words: &[u32], is_multi: bool, rows: &mut Rows) -> Result<Option<u64>, u32> {
     let parts = multi::read_left(words, is_multi)?;
     for instruction in compile(&parts).instructions {

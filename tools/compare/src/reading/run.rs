@@ -47,7 +47,7 @@ impl Search<'_> {
                 let PatternNode::Operator(operator, children) = &self.parts[part].pattern.nodes[node] else {
                     unreachable!("a Bind names an operator")
                 };
-                for candidate in &table.class(registers[from]).nodes {
+                for candidate in &table.classes[table.place(registers[from])].nodes {
                     if candidate.operator == *operator && candidate.children.len() == children.len() {
                         registers.truncate(to);
                         registers.extend(&candidate.children);

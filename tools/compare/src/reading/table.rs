@@ -52,10 +52,9 @@ impl Table {
         self.find.get(id as usize) == Some(&id)
     }
 
-    /// The class with this id; it must be canonical.
-    pub fn class(&self, id: u32) -> &Class {
-        let place = self.classes.binary_search_by_key(&id, |class| class.id);
-        &self.classes[place.expect("a canonical id")]
+    /// The place of the class record with this id; it must be canonical.
+    pub fn place(&self, id: u32) -> usize {
+        self.classes.binary_search_by_key(&id, |class| class.id).expect("a canonical id")
     }
 
     /// The class of the one node with this operator and these children, or nothing.
