@@ -15,6 +15,7 @@ pub mod Program
 pub mod Compiler
 pub mod Matching
 pub mod Multi
+pub mod Records
 pub mod Masks
 pub mod Entries
 pub mod Numbers

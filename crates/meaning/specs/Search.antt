@@ -15,6 +15,8 @@ pub mod Compiled
 pub mod Choice
 pub mod Running
 pub mod Bounds
+pub mod Counting
+pub mod Written
 -- theorems
 pub mod Theorem
 pub mod Whole

@@ -21,15 +21,15 @@ stands x (y ∷ l) = go (eqb x y) refl (stands x l)
     go false e (inl m) = inl (tail m)
     go false e (inr n) = inr (λ m. ⊎-elim (eqb-false x y e) n (cases-cons m))
 
-take-out : {x : ℕ} {l : List ℕ} → Mem x l → (r : List ℕ) × Took x l r
+pub take-out : {x : ℕ} {l : List ℕ} → Mem x l → (r : List ℕ) × Took x l r
 take-out {x} (head {x = y} {xs = l} e) = (l, subst (λ z. Took x (z ∷ l) l) e here)
 take-out (tail {x = y} m) = let (r, t) = take-out m in (y ∷ r, there t)
 
-took-length : {x : ℕ} {l r : List ℕ} → Took x l r → length l ≡ suc (length r)
+pub took-length : {x : ℕ} {l r : List ℕ} → Took x l r → length l ≡ suc (length r)
 took-length here = refl
 took-length (there t) = ap suc (took-length t)
 
-took-once : {x : ℕ} {l r : List ℕ} → Took x l r → NoDup l → NoDup r × (Mem x r → ⊥)
+pub took-once : {x : ℕ} {l r : List ℕ} → Took x l r → NoDup l → NoDup r × (Mem x r → ⊥)
 took-once here (more n d) = (d, n)
 took-once {x} (there {y = y} {l = l} {r = r} t) (more n d) = let (e, m) = took-once t d in
     (more (λ k. n (took-rest t k)) e, λ k. ⊎-elim (λ q. n (mem-cast (sym q) (took-in t))) m (cases-cons k))
