@@ -10,5 +10,7 @@ pub mod Rules
 pub mod Numbering
 pub mod Lookup
 pub mod PatternRules
+pub mod Loops
+pub mod Ends
 pub mod PatternNumbering
 pub mod Tables
