@@ -11,6 +11,8 @@ pub mod Numbering
 pub mod Lookup
 pub mod Masks
 pub mod PatternRules
+pub mod Loops
+pub mod Ends
 pub mod PatternNumbering
 pub mod Tables
 pub mod Built

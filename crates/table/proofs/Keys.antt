@@ -1,48 +1,23 @@
 -- The index entry at which a key must stand, and what is found there. Assumes nothing.
-use Prim.Native.Nat.{ℕ, zero, suc, _+_, _-_, _<_, _≤_}
+use Prim.Native.Nat.{ℕ, _-_, _<_, _≤_}
 use mathlib.Core.Path.{_≡_, refl, sym, ap, _∙_}
 use mathlib.Core.Bool.{Bool, true, false}
-use mathlib.Core.List.{List, [], _∷_}
-use lib.Dec.{eqb, ltb}
-use lib.ListN.{length, getD, drop, drop-of-length-le}
-use lib.Seq.{drop-cons}
-use borrow.Author.Tests.{eq-eqb, ne-eqb, ltb-true, ltb-false}
-use native.Mathlib.Numerals.{add-one}
+use mathlib.Core.List.{List}
+use lib.Dec.{ltb}
+use borrow.Author.Tests.{ltb-true, ltb-false}
 use native.Mathlib.Omega.{arith}
 use Rattle.meaning.specs.declared.Layout.{Layout}
-use Rattle.meaning.specs.Tests.{and, Opt, none, some, sameList, same-true, same-is, not-true-false, and-fails-left, apart}
+use Rattle.meaning.specs.Tests.{sameList, same-true, same-is, apart}
 use Rattle.meaning.specs.Ranges.{leading}
-use Rattle.meaning.specs.Graph.{Node, node, less, lookup, placeIn, allNodes}
+use Rattle.meaning.specs.Graph.{Node, node}
 use Rattle.meaning.specs.Words.{opAt, ownerAt, indexAt, nodeAt, graphAt}
 use Rattle.meaning.specs.Good.{Sound}
 use Rattle.meaning.specs.Laws.Keys.{less-irrefl}
 use Rattle.meaning.specs.Laws.Tables.{index-rises, index-onto, node-placed, node-found, key-unplaced}
-use Rattle.meaning.specs.Laws.Bisection.{leading-le, leading-holds, leading-past}
-use Rattle.table.specs.declared.lookup.Found.{Found}
+use Rattle.meaning.specs.Laws.Bisection.{leading-holds, leading-past}
 use Rattle.table.specs.declared.lookup.Found.the-variants.{At, Nothing}
 use Rattle.table.specs.Lookups.{entryBefore, found, foundAt}
 use Rattle.table.proofs.Bisect.{entries-fall}
-
--- two lists, by what is left of them
-pub same-step : (a b : List ℕ) (i : ℕ) → i < length a → length a ≡ length b → sameList (drop i a) (drop i b) ≡ and (eqb (getD a i 0) (getD b i 0)) (sameList (drop (i + 1) a) (drop (i + 1) b))
-unfolding sameList
-same-step a b i h e = let k : i < length b = omega arith in rw (drop-cons a i 0 h, drop-cons b i 0 k, add-one i)
-
-pub lengths-differ : (a b : List ℕ) → (length a ≡ length b → ⊥) → false ≡ sameList a b
-lengths-differ a b n = sym (not-true-false _ (λ h. n (ap length (same-true a b h))))
-
-pub words-differ : (a b : List ℕ) (i : ℕ) → sameList (drop i a) (drop i b) ≡ sameList a b → i < length a → length a ≡ length b → (getD a i 0 ≡ getD b i 0 → ⊥) → false ≡ sameList a b
-words-differ a b i l h e n = sym (and-fails-left _ (ne-eqb _ _ n)) ∙ sym (same-step a b i h e) ∙ l
-
-pub words-agree : (a b : List ℕ) (i : ℕ) → sameList (drop i a) (drop i b) ≡ sameList a b → i < length a → length a ≡ length b → getD a i 0 ≡ getD b i 0 → sameList (drop (i + 1) a) (drop (i + 1) b) ≡ sameList a b
-words-agree a b i l h e d = sym (same-step a b i h e ∙ rest) ∙ l
-  where
-    rest : and (eqb (getD a i 0) (getD b i 0)) (sameList (drop (i + 1) a) (drop (i + 1) b)) ≡ sameList (drop (i + 1) a) (drop (i + 1) b)
-    rest = unfold and in rw (eq-eqb _ _ d)
-
-pub words-ended : (a b : List ℕ) (i : ℕ) → sameList (drop i a) (drop i b) ≡ sameList a b → length a ≡ length b → length a ≤ i → true ≡ sameList a b
-unfolding sameList
-words-ended a b i l e h = let k : length b ≤ i = omega arith in rw (drop-of-length-le a h, drop-of-length-le b k) at l
 
 -- an index entry names a node
 pub names : {t : List ℕ} {l : Layout} → Sound t l → (x i : ℕ) → i ≡ indexAt t l x → x < l .n → i < l .n

@@ -1,6 +1,5 @@
 ghost use mathlib.Core.Path.{_≡_};
 ghost use Prim.Native.Nat.{_<_};
-ghost use Rattle.meaning.specs.Tests.{sameList};
 ghost use Rattle.meaning.specs.Ranges.{leading};
 ghost use Rattle.meaning.specs.Words.{graphAt};
 ghost use Rattle.meaning.specs.Good.{Sound};
@@ -14,21 +13,6 @@ use words::key;
 pub enum Found {
     At(usize, Id),
     Nothing,
-}
-
-// Whether two lists of children are the same.
-fn same_kids(a: &[u32], b: &[u32]) -> bool
-    ensures { λ r. ⌜ r ≡ sameList (now (a .entry)) (now (b .entry)) ⌝ }
-{
-    if a.len() != b.len() {
-        return false;
-    }
-    for i in 0..a.len() {
-        if a[i] != b[i] {
-            return false;
-        }
-    }
-    true
 }
 
 // Whether the node that the index names at x comes before the key o(kids).
@@ -67,7 +51,7 @@ pub fn lookup(t: &[u32], l: Layout, o: usize, kids: &[u32]) -> Found
     if x < l.n {
         let i = areas::index_at(t, l, x);
         if areas::op_at(t, l, i) == o {
-            if same_kids(areas::children(t, l, i), kids) {
+            if key::same_kids(areas::children(t, l, i), kids) {
                 return Found::At(i, Id(areas::owner_at(t, l, i) as u32));
             }
         }

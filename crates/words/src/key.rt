@@ -1,6 +1,7 @@
 ghost use mathlib.Core.Path.{_≡_};
 ghost use Prim.Native.Nat.{ℕ, _+_, _<_, _≤_};
 ghost use lib.ListN.{length};
+ghost use Rattle.meaning.specs.Tests.{sameList};
 ghost use Rattle.meaning.specs.Graph.{Node, node, lessKids, less};
 ghost use Rattle.meaning.specs.Words.{kidAt, arityAt, nodeAt};
 ghost use Rattle.meaning.specs.Good.{Placed};
@@ -23,6 +24,21 @@ fn kids_before(a: &[u32], b: &[u32]) -> bool
         }
     }
     false
+}
+
+// Whether two lists of children are the same.
+pub fn same_kids(a: &[u32], b: &[u32]) -> bool
+    ensures { λ r. ⌜ r ≡ sameList (now (a .entry)) (now (b .entry)) ⌝ }
+{
+    if a.len() != b.len() {
+        return false;
+    }
+    for i in 0..a.len() {
+        if a[i] != b[i] {
+            return false;
+        }
+    }
+    true
 }
 
 // Whether the key o(a) comes before the key p(b): by operator, then arity, then children.

@@ -1,6 +1,6 @@
 use Rattle.meaning.specs.Refusal.{goodFindAt, goodFind}
 use Rattle.meaning.specs.Tests.{allBelow}
-use Rattle.checker.proofs.Loops.{more, broken, passed}
+use Rattle.meaning.specs.Laws.Loops.{more, broken, passed}
 use mathlib.Core.List.{List}
 use mathlib.Core.Bool.{Bool, true, false}
 use mathlib.Core.Path.{_≡_, refl, sym, ap, _∙_}

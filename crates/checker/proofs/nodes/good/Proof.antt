@@ -1,5 +1,5 @@
 use Rattle.meaning.specs.Refusal.{goodNodes}
-use Rattle.checker.proofs.Loops.{both, first-fails}
+use Rattle.meaning.specs.Laws.Loops.{both, first-fails}
 use native.Mathlib.Omega.{arith}
 use borrow.Author.Needs.{needs}
 use Rattle.checker.proofs.nodes.good.Statement.{statement}

@@ -4,7 +4,7 @@ use Rattle.meaning.specs.Words.{kidAt, arityAt}
 use Rattle.meaning.specs.Ranges.{endBefore}
 use Rattle.meaning.specs.Tests.{and, allBelow, and-fails-left}
 use lib.Dec.{eqb}
-use Rattle.checker.proofs.Loops.{more, broken, passed}
+use Rattle.meaning.specs.Laws.Loops.{more, broken, passed}
 use Rattle.meaning.specs.declared.Layout.{Layout}
 use mathlib.Core.List.{List}
 use mathlib.Core.Bool.{Bool, true, false}

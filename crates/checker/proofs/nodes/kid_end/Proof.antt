@@ -1,4 +1,4 @@
-use Rattle.checker.proofs.Ends.{none-before, one-before}
+use Rattle.meaning.specs.Laws.Ends.{none-before, one-before}
 use Rattle.meaning.specs.Words.{kidAt, arityAt}
 use native.Mathlib.Omega.{arith}
 use borrow.Author.Needs.{needs}

@@ -7,7 +7,7 @@ use Rattle.table.proofs.lookup.lookup.Tie as tie
 use Rattle.table.proofs.lookup.lookup.Reads as reads
 use Rattle.table.proofs.lookup.lookup.Lts as lts
 use Rattle.table.proofs.lookup.entries_before.Reads as entries-before-reads
-use Rattle.table.proofs.lookup.same_kids.Reads as same-kids-reads
+use Rattle.words.proofs.key.same_kids.Reads as same-kids-reads
 use Rattle.words.proofs.areas.children.Reads as children-reads
 use Rattle.words.proofs.areas.index_at.Reads as index-at-reads
 use Rattle.words.proofs.areas.op_at.Reads as op-at-reads
