@@ -82,7 +82,7 @@ ahead p B x y =
     (smaller (x .node) (y .node) (ltb (x .reg .0) (y .reg .0)))))
 
 -- the place of the item, among the first n, that goes before the others
-unfoldable pub best : (Item → Item → Bool) → Item → List Item → ℕ → ℕ
+unfoldable pub best : {A : Type 0} → (A → A → Bool) → A → List A → ℕ → ℕ
 best before d l zero = 0
 best before d l (suc n) = let b = best before d l n in cond (before (getD l n d) (getD l b d)) n b
 

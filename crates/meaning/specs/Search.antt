@@ -17,6 +17,7 @@ pub mod Running
 pub mod Bounds
 pub mod Counting
 pub mod Written
+pub mod Window
 -- theorems
 pub mod Theorem
 pub mod Whole
