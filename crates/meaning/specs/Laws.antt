@@ -14,3 +14,7 @@ pub mod Loops
 pub mod Ends
 pub mod PatternNumbering
 pub mod Tables
+pub mod Built
+pub mod Instances
+pub mod Sums
+pub mod Patterns
