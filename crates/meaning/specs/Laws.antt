@@ -17,3 +17,5 @@ pub mod PatternNumbering
 pub mod Tables
 pub mod Built
 pub mod Instances
+pub mod Sums
+pub mod Patterns

@@ -33,12 +33,12 @@ unfolding freeOf kidsOf
 free-local f h (var v) e = refl
 free-local f h (op o cs) e = unions-same f h cs e
 
-sum-same : (f h : ℕ → ℕ) (cs : List ℕ) → ((c : ℕ) → Mem c cs → f c ≡ h c) → sum f cs ≡ sum h cs
+pub sum-same : (f h : ℕ → ℕ) (cs : List ℕ) → ((c : ℕ) → Mem c cs → f c ≡ h c) → sum f cs ≡ sum h cs
 unfolding sum
 sum-same f h [] e = refl
 sum-same f h (c ∷ cs) e = cc (e c (head refl), sum-same f h cs (λ d m. e d (tail m)))
 
-occ-local : Local occOf
+pub occ-local : Local occOf
 unfolding occOf kidsOf
 occ-local f h (var v) e = refl
 occ-local f h (op o cs) e = ap (λ n. 1 + n) (sum-same f h cs e)

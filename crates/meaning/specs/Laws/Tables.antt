@@ -49,7 +49,7 @@ pub record-within : (j c w : ℕ) → j < c → j * w + w ≤ c * w
 record-within j c w h = let k = mul-le-mul-right w h in omega (arith, k)
 
 -- what stands in a part of a list
-mem-part : (n a : ℕ) (t : List ℕ) (c : ℕ) → Mem c (take n (drop a t)) → (x : ℕ) × (x < n) × (c ≡ getD t (a + x) 0)
+pub mem-part : (n a : ℕ) (t : List ℕ) (c : ℕ) → Mem c (take n (drop a t)) → (x : ℕ) × (x < n) × (c ≡ getD t (a + x) 0)
 mem-part n a t c m = let (x, b, e) = mem-at (take n (drop a t)) c m in
     let h = rw (length-take n (drop a t)) at b in
     let g : x < n = omega arith in
