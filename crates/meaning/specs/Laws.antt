@@ -19,3 +19,4 @@ pub mod Built
 pub mod Instances
 pub mod Sums
 pub mod Patterns
+pub mod Sizes

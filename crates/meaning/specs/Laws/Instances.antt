@@ -1,8 +1,8 @@
 -- Instances, variables and occurrences of a node, from its children's. Assumes nothing.
 use Prim.Native.Nat.{ℕ, zero, suc, _+_, _<_, _≤_}
 use mathlib.Core.Path.{_≡_, refl, sym, ap, _∙_}
-use mathlib.Core.List.{List, [], _∷_, map}
-use mathlib.Core.List.{List·Memᴰ as Mem, List·Memᴰ·head as head, List·Memᴰ·tail as tail, List·Memᴰ·not-nil as not-nil, List·Memᴰ·cases-cons as cases-cons}
+use mathlib.Core.List.{List, [], _∷_, _++_, map}
+use mathlib.Core.List.{List·Memᴰ as Mem, List·Memᴰ·head as head, List·Memᴰ·tail as tail, List·Memᴰ·not-nil as not-nil, List·Memᴰ·cases-cons as cases-cons, Memᴰ·append-left as mem-left, Memᴰ·append-right as mem-right, List·Memᴰ·append-cases as mem-split}
 use mathlib.Core.Logic.{_⊎_, inl, inr, ⊎-elim}
 use mathlib.Core.Bool.{Bool, true, false, cond}
 use lib.ListN.{length}
@@ -94,6 +94,16 @@ pub unions-from : (f : ℕ → List ℕ) (cs : List ℕ) {u : ℕ} → Mem u (un
 unfolding unions
 unions-from f [] k = absurd (not-nil k)
 unions-from f (d ∷ cs) {u} k = ⊎-elim (λ r. (d, head refl, r)) (λ r. let (c, m, h) = unions-from f cs r in (c, tail m, h)) (union-from (f d) (unions f cs) k)
+
+-- one list more
+pub unions-append : (f : ℕ → List ℕ) (cs : List ℕ) (c u : ℕ) → Mem u (unions f cs) ⊎ Mem u (f c) → Mem u (unions f (cs ++ (c ∷ [])))
+unions-append f cs c u (inl m) = let (d, k, h) = unions-from f cs m in unions-of f (cs ++ (c ∷ [])) (mem-left (c ∷ []) k) h
+unions-append f cs c u (inr h) = unions-of f (cs ++ (c ∷ [])) (mem-right cs (head refl)) h
+
+pub unions-last : (f : ℕ → List ℕ) (cs : List ℕ) (c u : ℕ) → Mem u (unions f (cs ++ (c ∷ []))) → Mem u (unions f cs) ⊎ Mem u (f c)
+unions-last f cs c u m =
+    let (d, k, h) = unions-from f (cs ++ (c ∷ [])) m in
+    ⊎-elim (λ r. inl (unions-of f cs r h)) (λ r. ⊎-elim (λ e. inr (rw e at h)) (λ x. absurd (not-nil x)) (cases-cons r)) (mem-split cs k)
 
 insert-once : (v : ℕ) {l : List ℕ} → NoDup l → NoDup (insert v l)
 unfolding insert
