@@ -8,11 +8,11 @@ use crate::sets;
 use meaning::Reg;
 
 // Waiting work items: pattern node, register.
-pub type Items = [[u32; 2]; 256];
+pub type Items = [[u32; 2]; 264];
 
 // Puts an item at the end of the n that wait.
 pub fn push(items: &mut Items, n: usize, node: u32, r: Reg)
-    requires { ⌜ n < 256 ⌝ }
+    requires { ⌜ n < 264 ⌝ }
     ensures { λ _. ⌜ now (items .exit) ≡ set (now (items .entry)) n (node ∷ r .0 ∷ []) ⌝ }
 {
     items[n] = [node, r.0];
@@ -20,8 +20,8 @@ pub fn push(items: &mut Items, n: usize, node: u32, r: Reg)
 
 // Takes the item at b out of the n that wait; the others keep their order.
 pub fn remove(items: &mut Items, n: usize, b: usize)
-    requires { ⌜ (b < n) × (n ≤ 256) × (256 ≡ length (now items)) ⌝ }
-    ensures { λ _. ⌜ (take (n - 1) (now (items .exit)) ≡ take b (now (items .entry)) ++ drop (b + 1) (take n (now (items .entry)))) × (256 ≡ length (now (items .exit))) ⌝ }
+    requires { ⌜ (b < n) × (n ≤ 264) × (264 ≡ length (now items)) ⌝ }
+    ensures { λ _. ⌜ (take (n - 1) (now (items .exit)) ≡ take b (now (items .entry)) ++ drop (b + 1) (take n (now (items .entry)))) × (264 ≡ length (now (items .exit))) ⌝ }
 {
     let mut i = b;
     while i + 1 < n {
@@ -72,7 +72,7 @@ fn goes_first(free: &[u64; 64], size: &[u32; 64], bound: u64, x: [u32; 2], y: [u
 
 // The place of the item, among the n that wait, that goes before the others.
 pub fn next(items: &Items, n: usize, free: &[u64; 64], size: &[u32; 64], bound: u64) -> usize
-    requires { ⌜ (0 < n) × (n ≤ 256) × ((i : ℕ) → i < n → getD (getD (now items) i []) 0 0 < 64) ⌝ }
+    requires { ⌜ (0 < n) × (n ≤ 264) × ((i : ℕ) → i < n → getD (getD (now items) i []) 0 0 < 64) ⌝ }
     ensures { λ r. ⌜ r ≡ best (goesFirst (now (free .entry)) (now (size .entry)) bound) [] (now (items .entry)) n ⌝ }
 {
     let mut b = 0;

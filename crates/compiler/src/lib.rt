@@ -6,6 +6,7 @@ pub mod items;
 pub mod load;
 
 pub mod sets;
+pub mod todo;
 
 pub mod vars;
 

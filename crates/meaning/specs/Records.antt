@@ -12,9 +12,13 @@ pub record Frame : Type 0 where
   pub place : ℕ → ℕ
   pub base : ℕ → ℕ
 
+-- one pattern's own instructions, as the i-th
+abbrev pub alone : ℕ → Frame
+alone i = record { place = λ q. i; base = λ j. 0 }
+
 -- a lone pattern
 abbrev pub lone : Frame
-lone = record { place = λ q. 0; base = λ i. 0 }
+lone = alone 0
 
 -- the patterns of a multipattern: a binder stands before each one's nodes
 unfoldable pub framed : List Bound → Frame
