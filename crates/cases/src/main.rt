@@ -1,3 +1,4 @@
+#![tactic(auto)]
 // Runs cases given as text, a line each, and writes what the library answers.
 //
 // A line of `t` and numbers is a table, and its answer is the table's refusal number. A line that

@@ -1,3 +1,4 @@
+#![tactic(auto)]
 // The table checker: any words to document 01's number, 0 to 6, in its order, each area in one pass.
 pub mod classes;
 pub mod find;

@@ -7,7 +7,7 @@ use native.Mathlib.Omega.{arith}
 use Rattle.meaning.specs.Words.{word}
 use Rattle.meaning.specs.PatternWords.{degree_at, start_at, child_of, children_of}
 use Rattle.meaning.specs.GoodPattern.{PatternNodes}
-use Rattle.meaning.specs.Laws.Patterns.{child_there, children_within, children_length}
+use Rattle.meaning.proofs.Laws.Patterns.{child_there, children_within, children_length}
 use Rattle.pattern.specs.Laid.{Laid}
 use Rattle.pattern.specs.declared.Pattern.{Pattern}
 

@@ -1,3 +1,4 @@
+#![tactic(auto)]
 // The compiler: a checked pattern or multipattern to a program's records.
 pub mod compile;
 pub mod instr;

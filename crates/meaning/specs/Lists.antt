@@ -48,6 +48,7 @@ all_split {P} (x ∷ s) {t} h = go (λ r. all_split s r) h
     go f (cons h r) = (cons h (f r).0, (f r).1)
 
 pub all_at : {A : Type 0} {P : A → Type 0} {l : List A} {x : A} → All P l → Mem x l → P x
+all_at nil m = elim m [ ]
 all_at {P} (cons h t) (head e) = subst P (sym e) h
 all_at (cons h t) (tail m) = all_at t m
 
@@ -62,12 +63,13 @@ put_all (there k) p (cons h t) = cons h (put_all k p t)
 -- what a walk meets comes from one of the list
 pub from_walk : {A B : Type 0} (f : A → List B) (l : List A) {b : B} → Mem b (flat_map f l) → (a : A) × Mem a l × Mem b (f a)
 unfolding flat_map
+from_walk f [] m = elim m [ ]
 from_walk f (x ∷ l) {b} m = ⊎_elim
     (λ h. (x, head refl, h))
     (λ t. let (a, k, h) = from_walk f l t in (a, tail k, h))
     (mem-cases (f x) m)
 
-pub to_walk : {A B : Type 0} (f : A → List B) {l : List A} {a : A} {b : B} → Mem a l → Mem b (f a) → Mem b (flat_map f l)
+pub to_walk : {A B : Type 0} (f : A → List B) {a : A} {b : B} {l : List A} → Mem a l → Mem b (f a) → Mem b (flat_map f l)
 unfolding flat_map
 to_walk f {b} (head {xs = l} e) m = mem-left (flat_map f l) (subst (λ y. Mem b (f y)) e m)
 to_walk f (tail {x = x} k) m = mem-right (f x) (to_walk f k m)
@@ -91,7 +93,7 @@ pub all_of : {A : Type 0} {P : A → Type 0} (l : List A) → ((x : A) → Mem x
 all_of [] f = nil
 all_of (x ∷ l) f = cons (f x (head refl)) (all_of l (λ y m. f y (tail m)))
 
-pub mem_map : {A B : Type 0} (f : A → B) {l : List A} {x : A} → Mem x l → Mem (f x) (map f l)
+pub mem_map : {A B : Type 0} (f : A → B) {x : A} {l : List A} → Mem x l → Mem (f x) (map f l)
 mem_map f (head e) = head (ap f e)
 mem_map f (tail m) = tail (mem_map f m)
 
@@ -107,6 +109,7 @@ map_same f h [] e = refl
 map_same f h (x ∷ l) e = cc (e x (head refl), map_same f h l (λ y m. e y (tail m)))
 
 pub from_map : {A B : Type 0} (f : A → B) (l : List A) {y : B} → Mem y (map f l) → (x : A) × Mem x l × (y ≡ f x)
+from_map f [] m = elim m [ ]
 from_map f (x ∷ l) (head e) = (x, head refl, e)
 from_map f (x ∷ l) (tail m) = let (a, k, e) = from_map f l m in (a, tail k, e)
 
@@ -129,6 +132,7 @@ nodup_right (x ∷ s) {t} d = go (λ r. nodup_right s r) d
     go f (more n r) = f r
 
 pub nodup_apart : {A : Type 0} (s : List A) {t : List A} {y : A} → NoDup (s ++ t) → Mem y s → Mem y t → ⊥
+nodup_apart [] d k m = elim k [ ]
 nodup_apart (x ∷ s) {t} {y} d (head e) m = go d
   where
     go : NoDup (x ∷ (s ++ t)) → ⊥

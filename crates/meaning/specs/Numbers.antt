@@ -1,10 +1,7 @@
--- Document 01's tables, and its numbers 11 and 14, by computation. Assumes nothing.
-use Rattle.std.specs.Prelude.{ℕ, ◌≡◌, refl, List, [], ◌∷◌, ◌++◌, map, Bool, true, false, eqb, set, take}
-use Rattle.meaning.specs.Tests.{and, all_below, same_list}
-use Rattle.meaning.specs.Graph.{smaller, less_kids, less}
-use Rattle.meaning.specs.Ranges.{from, keep, end_from, end_before}
-use Rattle.meaning.specs.Words.{node_at}
-use Rattle.meaning.specs.Refusal.{good_limits, good_shape, rises_at, is_canonical, good_find_at, good_find, canonicals, ids_to, good_ids, good_range_at, good_ranges, good_classes, good_node_at, good_member_at, good_members_at, good_members, good_child_at, good_children, good_nodes, good_index_at, good_index, areas_refusal, refusal_of}
+-- Document 01's tables with their numbers, 11 and 14 among them. proofs/Numbers.antt computes them.
+use Rattle.std.specs.Prelude.{ℕ, List, [], ◌∷◌, ◌++◌, Bool, true, eqb, set, take}
+use Rattle.meaning.specs.Tests.{and}
+use Rattle.meaning.specs.Refusal.{refusal_of}
 
 -- a, b, f(a,a), f(a,b)
 unfoldable pub T : List ℕ
@@ -57,7 +54,3 @@ tables =
     ∷ gives (set T 28 1) 5
     ∷ gives (set T 44 4) 5
     ∷ []
-
-pub claim : all_right tables ≡ true
-unfolding T Loop Empty tables all_right and all_below same_list smaller less_kids less from keep end_from node_at good_limits good_shape rises_at is_canonical good_find_at good_find canonicals ids_to good_ids good_range_at good_ranges good_classes good_node_at good_member_at good_members_at good_members good_child_at good_children good_nodes good_index_at good_index areas_refusal refusal_of
-claim = refl

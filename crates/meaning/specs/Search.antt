@@ -6,24 +6,15 @@ pub mod Solve
 -- laws
 pub mod Rowlaws
 pub mod Fits
-pub mod Moves
-pub mod Central
 pub mod Bindings
 pub mod Measure
 pub mod Steps
 pub mod Compiled
-pub mod Choice
 pub mod Running
 pub mod Bounds
 pub mod Counting
 pub mod Written
 pub mod Window
 -- theorems
-pub mod Theorem
-pub mod Whole
 pub mod Covers
 pub mod Paths
-pub mod Growth
-pub mod MultiTheorem
-pub mod MultiGrowth
-pub mod MultiCovers

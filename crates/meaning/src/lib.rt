@@ -1,3 +1,4 @@
+#![tactic(auto)]
 // The types that the definitions in specs/ share with the code. Nothing runs here.
 
 // A class id.

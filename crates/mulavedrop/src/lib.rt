@@ -1,3 +1,4 @@
+#![tactic(auto)]
 // The C surface: one function an entry, with nothing asked of the caller. include/mulavedrop.h
 // declares them.
 ghost use Rattle.std.specs.Prelude.{◌≡◌};

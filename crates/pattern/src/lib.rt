@@ -1,3 +1,4 @@
+#![tactic(auto)]
 // Patterns and multipatterns: any words to document 01's number, in its order, and the words of a
 // good one.
 pub mod header;

@@ -10,8 +10,8 @@ use Rattle.meaning.specs.declared.Layout.{Layout}
 use Rattle.meaning.specs.Graph.{Node, node, less}
 use Rattle.meaning.specs.Words.{id_at}
 use Rattle.meaning.specs.Good.{Sound}
-use Rattle.meaning.specs.Laws.Keys.{less_trans}
-use Rattle.meaning.specs.Laws.Tables.{ids_rise, index_rises}
+use Rattle.meaning.proofs.Laws.Keys.{less_trans}
+use Rattle.meaning.proofs.Laws.Tables.{ids_rise, index_rises}
 use Rattle.meaning.specs.Laws.Bisection.{Falling, Bracket, bracket_up, bracket_down}
 use Rattle.table.specs.Spans.{id_below}
 use Rattle.table.specs.Lookups.{entry_before}

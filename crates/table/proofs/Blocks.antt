@@ -15,9 +15,9 @@ use Rattle.meaning.specs.Graph.{less, fits, before_block}
 use Rattle.meaning.specs.Words.{op_at, arity_at, node_at}
 use Rattle.meaning.specs.Good.{Sound}
 use Rattle.meaning.specs.Laws.Ascending.{rises_past}
-use Rattle.meaning.specs.Laws.Keys.{less_trans, smaller_lt, smaller_gt, smaller_eq}
-use Rattle.meaning.specs.Laws.Tables.{node_arity}
-use Rattle.meaning.specs.Laws.Blocks.{before_falls, fits_not_before, fits_between}
+use Rattle.meaning.proofs.Laws.Keys.{less_trans, smaller_lt, smaller_gt, smaller_eq}
+use Rattle.meaning.proofs.Laws.Tables.{node_arity}
+use Rattle.meaning.proofs.Laws.Blocks.{before_falls, fits_not_before, fits_between}
 use Rattle.meaning.specs.Laws.Bisection.{Falling, Bracket, bracket_met, leading_is, leading_le, leading_holds, leading_past}
 use Rattle.table.specs.declared.class.Span.{Span}
 use Rattle.table.specs.Spans.{Rising, Met, block_start}

@@ -13,7 +13,7 @@ use Rattle.meaning.specs.Graph.{ids}
 use Rattle.meaning.specs.Words.{id_at, first_at, count_at, graph_at}
 use Rattle.meaning.specs.Good.{Sound}
 use Rattle.meaning.specs.Laws.Joins.{joined_within}
-use Rattle.meaning.specs.Laws.Tables.{ids_rise, id_canonical, class_nodes, no_class}
+use Rattle.meaning.proofs.Laws.Tables.{ids_rise, id_canonical, class_nodes, no_class}
 use Rattle.meaning.specs.Laws.Bisection.{leading_le, leading_holds, leading_fails}
 use Rattle.table.specs.declared.class.Span.{Span}
 use Rattle.table.specs.Spans.{id_below, Spans}

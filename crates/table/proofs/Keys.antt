@@ -12,8 +12,8 @@ use Rattle.meaning.specs.Ranges.{leading}
 use Rattle.meaning.specs.Graph.{Node, node}
 use Rattle.meaning.specs.Words.{op_at, owner_at, index_at, node_at, graph_at}
 use Rattle.meaning.specs.Good.{Sound}
-use Rattle.meaning.specs.Laws.Keys.{less_irrefl}
-use Rattle.meaning.specs.Laws.Tables.{index_rises, index_onto, node_placed, node_found, key_unplaced}
+use Rattle.meaning.proofs.Laws.Keys.{less_irrefl}
+use Rattle.meaning.proofs.Laws.Tables.{index_rises, index_onto, node_placed, node_found, key_unplaced}
 use Rattle.meaning.specs.Laws.Bisection.{leading_holds, leading_past}
 use Rattle.table.specs.declared.lookup.Found.TheVariants.{At, Nothing}
 use Rattle.table.specs.Lookups.{entry_before, found, found_at}

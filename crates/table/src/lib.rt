@@ -1,3 +1,4 @@
+#![tactic(auto)]
 // A checked table, asked: the nodes of a class, where the walk over an operator's nodes starts, and
 // lookup. All that is built above reads a table through these, and through words::areas.
 pub mod class;

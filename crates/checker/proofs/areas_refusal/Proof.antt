@@ -1,4 +1,4 @@
-use Rattle.meaning.specs.Laws.Rules.{classes, nodes}
+use Rattle.meaning.proofs.Laws.Rules.{classes, nodes}
 use Rattle.meaning.specs.Refusal.{areas_refusal}
 use mathlib.Core.Path.{sym, ◌∙◌}
 use native.Mathlib.Omega.{arith}

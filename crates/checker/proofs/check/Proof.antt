@@ -1,5 +1,5 @@
-use Rattle.meaning.specs.Laws.Tables.{placed}
-use Rattle.meaning.specs.Laws.Rules.{limits, shape}
+use Rattle.meaning.proofs.Laws.Tables.{placed}
+use Rattle.meaning.proofs.Laws.Rules.{limits, shape}
 use Rattle.meaning.specs.Refusal.{good_limits, good_shape, areas_refusal, refusal_of}
 use Rattle.meaning.specs.Good.{Limits, Placed}
 use Rattle.meaning.specs.Words.{layout_of}

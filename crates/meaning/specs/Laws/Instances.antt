@@ -61,6 +61,7 @@ insert_new v (u ∷ l) = go (eqb u v) refl (insert_new v l)
 
 insert_old : (v : ℕ) {u : ℕ} (l : List ℕ) → Mem u l → Mem u (insert v l)
 unfolding insert
+insert_old v [] m = elim m [ ]
 insert_old v {u} (x ∷ l) m = go (eqb x v) (cases_cons m) (λ r. insert_old v l r)
   where
     go : (b : Bool) → (u ≡ x) ⊎ Mem u l → (Mem u l → Mem u (insert v l)) → Mem u (cond b (x ∷ l) (x ∷ insert v l))
@@ -85,6 +86,7 @@ union_right (v ∷ l) m k = union_right l (insert v m) (insert_old v m k)
 
 union_left : {u : ℕ} (l m : List ℕ) → Mem u l → Mem u (union l m)
 unfolding union
+union_left [] m k = elim k [ ]
 union_left {u} (v ∷ l) m k = ⊎_elim (λ e. rw e (union_right l (insert v m) (insert_new v m))) (λ r. union_left l (insert v m) r) (cases_cons k)
 
 union_from : {u : ℕ} (l m : List ℕ) → Mem u (union l m) → Mem u l ⊎ Mem u m
@@ -94,6 +96,7 @@ union_from (v ∷ l) m k = ⊎_elim (λ r. inl (tail r)) (λ r. ⊎_elim (λ e. 
 
 pub unions_of : (f : ℕ → List ℕ) (cs : List ℕ) {u c : ℕ} → Mem c cs → Mem u (f c) → Mem u (unions f cs)
 unfolding unions
+unions_of f [] m k = elim m [ ]
 unions_of f (d ∷ cs) {u} m k = ⊎_elim (λ e. union_left (f d) (unions f cs) (rw e at k)) (λ r. union_right (f d) (unions f cs) (unions_of f cs r k)) (cases_cons m)
 
 pub unions_from : (f : ℕ → List ℕ) (cs : List ℕ) {u : ℕ} → Mem u (unions f cs) → (c : ℕ) × Mem c cs × Mem u (f c)

@@ -104,6 +104,7 @@ keep_append {A} p (a ∷ x) y = go (p a) (keep_append p x y)
 
 pub keep_mem : {A : Type 0} (p : A → Bool) (l : List A) {x : A} → Mem x l → p x ≡ true → Mem x (keep p l)
 unfolding keep
+keep_mem p [] m h = elim m [ ]
 keep_mem {A} p (a ∷ l) {x} m h = go (p a) refl (cases_cons m) (λ k. keep_mem p l k h)
   where
     go : (b : Bool) → p a ≡ b → (x ≡ a) ⊎ Mem x l → (Mem x l → Mem x (keep p l)) → Mem x (cond b (a ∷ keep p l) (keep p l))

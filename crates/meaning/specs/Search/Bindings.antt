@@ -38,6 +38,7 @@ reg_none (b ∷ B) v e m = go (eqb b.var v) refl e (cases_cons m) (λ r k. reg_n
 -- a ground node has no variable unbound
 bound_all : (B : List Held) (l : List ℕ) → unbound_in B l ≡ 0 → (v : ℕ) → Mem v l → Mem v (vars B)
 unfolding unbound_in more_if_none vars
+bound_all B [] e v m = elim m [ ]
 bound_all B (u ∷ l) e v m = go (reg_of B u) refl e (cases_cons m) (λ h k. bound_all B l h v k)
   where
     go : (s : Opt Reg) → reg_of B u ≡ s → more_if_none s (unbound_in B l) ≡ 0 → (v ≡ u) ⊎ Mem v l → (unbound_in B l ≡ 0 → Mem v l → Mem v (vars B)) → Mem v (vars B)

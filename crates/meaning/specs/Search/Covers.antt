@@ -32,6 +32,7 @@ use Rattle.meaning.specs.Search.Compiled.{compile_right}
 
 to_number : {c : ℕ} (k : ℕ) (cs : List ℕ) → Mem c cs → (j : Reg) × Mem (item c j) (number k cs)
 unfolding number
+to_number k [] m = elim m [ ]
 to_number k (d ∷ cs) (head e) = (reg k, head (ap (λ z. item z (reg k)) e))
 to_number k (d ∷ cs) (tail m) = let (j, h) = to_number (suc k) cs m in (j, tail h)
 

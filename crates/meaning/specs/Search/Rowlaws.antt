@@ -16,6 +16,7 @@ use Rattle.meaning.specs.Compiler.{item, number}
 -- the row of a file gives each variable its register's class
 pub asg_row : (H : List Held) (ρ : List ℕ) (b : Held) → NoDup (vars H) → Mem b H → asg (vars H) (row H ρ) b.var ≡ at ρ b.reg
 unfolding vars row asg
+asg_row [] ρ b d m = elim m [ ]
 asg_row (h ∷ H) ρ b (more n d) (head e) = rw (e, eq-eqb h.var h.var refl)
 asg_row (h ∷ H) ρ b (more n d) (tail m) = rw (ne_eqb h.var b.var (λ e. n (mem-cast e (mem_map (λ x. x.var) m)))) (asg_row H ρ b d m)
 

@@ -2,7 +2,7 @@ use Rattle.pattern.specs.Counts.{capped}
 use Rattle.pattern.specs.Laid.{Counted, Laid, laid, Opened}
 use Rattle.pattern.specs.declared.Checked.{Checked}
 use Rattle.pattern.specs.declared.Pattern.{Pattern}
-use Rattle.meaning.specs.Laws.PatternRules.{pattern_limits, pattern_shape, pattern_nodes}
+use Rattle.meaning.proofs.Laws.PatternRules.{pattern_limits, pattern_shape, pattern_nodes}
 use Rattle.meaning.specs.PatternRefusal.{good_pattern_limits, good_pattern_shape, good_pattern_nodes, pattern_refusal}
 use Rattle.meaning.specs.GoodPattern.{PatternLimits, PatternNodes}
 use Rattle.meaning.specs.PatternWords.{pattern_of}

@@ -1,6 +1,6 @@
 use Rattle.pattern.specs.Laid.{Counted}
 use Rattle.pattern.specs.declared.Pattern.{Pattern}
-use Rattle.meaning.specs.Laws.Rules.{joined}
+use Rattle.meaning.proofs.Laws.Rules.{joined}
 use Rattle.meaning.specs.PatternRefusal.{good_part_at, good_parts, good_use, good_once, good_pattern_nodes}
 use Rattle.meaning.specs.PatternWords.{degree_at, start_at}
 use Rattle.meaning.specs.Good.{Joined}

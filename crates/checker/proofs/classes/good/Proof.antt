@@ -1,5 +1,5 @@
 use Rattle.meaning.specs.Refusal.{good_classes}
-use Rattle.meaning.specs.Laws.Loops.{both, first_fails}
+use Rattle.meaning.proofs.Laws.Loops.{both, first_fails}
 use native.Mathlib.Omega.{arith}
 use borrow.Author.Rules.{rules}
 use Rattle.checker.proofs.classes.good.Statement.{statement}

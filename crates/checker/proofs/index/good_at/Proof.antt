@@ -1,5 +1,5 @@
 use Rattle.meaning.specs.Laws.Joins.{joined_within}
-use Rattle.meaning.specs.Laws.Rules.{rises_back, rises_first}
+use Rattle.meaning.proofs.Laws.Rules.{rises_back, rises_first}
 use Rattle.meaning.specs.Refusal.{good_index_at}
 use Rattle.meaning.specs.Words.{index_at, node_at}
 use Rattle.meaning.specs.Graph.{less}

@@ -1,7 +1,7 @@
 use Rattle.meaning.specs.Refusal.{is_canonical, good_child_at, good_children}
 use Rattle.meaning.specs.Words.{child_at}
 use Rattle.meaning.specs.Tests.{all_below}
-use Rattle.meaning.specs.Laws.Loops.{more, broken, passed}
+use Rattle.meaning.proofs.Laws.Loops.{more, broken, passed}
 use mathlib.Core.List.{List}
 use mathlib.Core.Bool.{Bool, true, false}
 use mathlib.Core.Path.{◌≡◌, refl, sym, ap, ◌∙◌}

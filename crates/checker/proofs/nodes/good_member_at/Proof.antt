@@ -1,4 +1,4 @@
-use Rattle.meaning.specs.Laws.Rules.{rises_back, rises_first}
+use Rattle.meaning.proofs.Laws.Rules.{rises_back, rises_first}
 use Rattle.meaning.specs.Refusal.{good_node_at, good_member_at}
 use Rattle.meaning.specs.Words.{first_at, id_at, kid_at, arity_at, owner_at, node_at}
 use Rattle.meaning.specs.Graph.{less}

@@ -1,6 +1,6 @@
 use Rattle.meaning.specs.Refusal.{good_member_at, good_members_at}
 use Rattle.meaning.specs.Tests.{all_below}
-use Rattle.meaning.specs.Laws.Loops.{more, broken, passed}
+use Rattle.meaning.proofs.Laws.Loops.{more, broken, passed}
 use mathlib.Core.List.{List}
 use mathlib.Core.Bool.{Bool, true, false}
 use mathlib.Core.Path.{◌≡◌, refl, sym, ap, ◌∙◌}

@@ -1,5 +1,5 @@
 use Rattle.compiler.specs.Arrays.{free_count, goes_first}
-use Rattle.meaning.specs.Laws.Keys.{smaller_lt, smaller_gt, smaller_eq}
+use Rattle.meaning.proofs.Laws.Keys.{smaller_lt, smaller_gt, smaller_eq}
 use Rattle.meaning.specs.Compiler.{late}
 use Rattle.meaning.specs.Words.{word}
 use Rattle.meaning.specs.Graph.{smaller}

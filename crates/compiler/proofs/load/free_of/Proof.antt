@@ -25,7 +25,7 @@ use Prim.Native.Nat.{ℕ, ◌+◌, ◌*◌, ◌-◌, ◌<◌, ◌≤◌}
 use Rattle.compiler.specs.Loaded.{FreeTo}
 use Rattle.meaning.specs.Search.Window.{Places, places_none, places_one, places_or, places_shift}
 use Rattle.meaning.specs.Laws.Instances.{unions_of, unions_from}
-use Rattle.meaning.specs.Laws.Sizes.{free_variable, free_operator}
+use Rattle.meaning.proofs.Laws.Sizes.{free_variable, free_operator}
 use Rattle.meaning.specs.Pattern.{free, unions}
 use native.Mathlib.Omega.{arith}
 use borrow.Author.Rules.{rules}

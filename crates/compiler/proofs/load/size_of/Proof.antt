@@ -10,7 +10,7 @@ use mathlib.Core.List.{List}
 use mathlib.Core.Path.{◌≡◌, refl, sym, ap, ◌∙◌}
 use Prim.Native.Nat.{ℕ, ◌+◌, ◌*◌, ◌-◌, ◌<◌, ◌≤◌}
 use Rattle.compiler.specs.Loaded.{Few, SizedTo}
-use Rattle.meaning.specs.Laws.Sizes.{size_variable, size_operator}
+use Rattle.meaning.proofs.Laws.Sizes.{size_variable, size_operator}
 use Rattle.meaning.specs.Laws.Sums.{sum_take}
 use Rattle.meaning.specs.Pattern.{sum, size}
 use native.Mathlib.Omega.{arith}

@@ -1,7 +1,7 @@
 use native.Mathlib.Nat.{eq-or-lt_of_le}
 use mathlib.Core.Logic.{⊎_elim}
 use Rattle.pattern.specs.Counts.{capped, CountedTo}
-use Rattle.meaning.specs.Laws.Patterns.{pattern_length}
+use Rattle.meaning.proofs.Laws.Patterns.{pattern_length}
 use Rattle.meaning.specs.PatternWords.{pattern_of}
 use Rattle.meaning.specs.Pattern.{occ, occurrences}
 use Rattle.meaning.specs.Words.{word}

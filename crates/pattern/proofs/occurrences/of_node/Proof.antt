@@ -1,7 +1,7 @@
 use Rattle.pattern.specs.Counts.{capped, CountedTo}
 use Rattle.pattern.specs.Laid.{Laid}
 use Rattle.pattern.specs.declared.Pattern.{Pattern}
-use Rattle.meaning.specs.Laws.Patterns.{child_there, children_within, children_length, occ_at}
+use Rattle.meaning.proofs.Laws.Patterns.{child_there, children_within, children_length, occ_at}
 use Rattle.meaning.specs.Laws.Sums.{sum_take}
 use Rattle.meaning.specs.GoodPattern.{PatternNodes}
 use Rattle.meaning.specs.PatternWords.{degree_at, start_at, child_of, children_of, pattern_of}

@@ -1,7 +1,7 @@
 use Rattle.meaning.specs.PatternRefusal.{is_new, good_once}
 use Rattle.meaning.specs.Words.{word}
 use Rattle.meaning.specs.Tests.{all_below}
-use Rattle.meaning.specs.Laws.Loops.{more, broken, passed}
+use Rattle.meaning.proofs.Laws.Loops.{more, broken, passed}
 use mathlib.Core.List.{List}
 use mathlib.Core.Bool.{Bool, true}
 use mathlib.Core.Path.{◌≡◌, refl, sym}

@@ -1,7 +1,7 @@
 use Rattle.meaning.specs.PatternRefusal.{is_same, is_new}
 use Rattle.meaning.specs.Tests.{all_below}
 use mathlib.Core.Bool.{not}
-use Rattle.meaning.specs.Laws.Loops.{more, broken, passed}
+use Rattle.meaning.proofs.Laws.Loops.{more, broken, passed}
 use mathlib.Core.List.{List}
 use mathlib.Core.Bool.{Bool, true, false}
 use mathlib.Core.Path.{◌≡◌, refl, sym, ap, ◌∙◌}

@@ -4,7 +4,7 @@ use Rattle.meaning.specs.Words.{word}
 use Rattle.meaning.specs.Ranges.{end_before}
 use Rattle.meaning.specs.Tests.{and, all_below, and_fails_left}
 use lib.Dec.{eqb}
-use Rattle.meaning.specs.Laws.Loops.{more, broken, passed}
+use Rattle.meaning.proofs.Laws.Loops.{more, broken, passed}
 use mathlib.Core.List.{List}
 use mathlib.Core.Bool.{true, false}
 use mathlib.Core.Path.{◌≡◌, refl, sym}

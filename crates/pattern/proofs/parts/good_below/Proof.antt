@@ -3,7 +3,7 @@ use Rattle.meaning.specs.PatternWords.{start_at, degree_at, child_of}
 use Rattle.meaning.specs.Tests.{all_below}
 use borrow.Author.Tests.{lt-ltb, le-ltb}
 use lib.Dec.{ltb}
-use Rattle.meaning.specs.Laws.Loops.{more, broken, passed}
+use Rattle.meaning.proofs.Laws.Loops.{more, broken, passed}
 use mathlib.Core.List.{List}
 use mathlib.Core.Bool.{true, false}
 use mathlib.Core.Path.{◌≡◌, refl, sym}

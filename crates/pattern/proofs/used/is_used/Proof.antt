@@ -5,7 +5,7 @@ use Rattle.meaning.specs.Words.{word}
 use borrow.Author.Tests.{eq-eqb, ne_eqb}
 use lib.Dec.{eqb}
 use mathlib.Core.Bool.{not}
-use Rattle.meaning.specs.Laws.Loops.{unmet, met, none_met}
+use Rattle.meaning.proofs.Laws.Loops.{unmet, met, none_met}
 use mathlib.Core.List.{List}
 use mathlib.Core.Bool.{true, false}
 use mathlib.Core.Path.{◌≡◌, refl, sym}

@@ -1,6 +1,6 @@
 use Rattle.table.proofs.Keys.{names}
 use Rattle.table.specs.Lookups.{entry_before}
-use Rattle.meaning.specs.Laws.Tables.{kids_within}
+use Rattle.meaning.proofs.Laws.Tables.{kids_within}
 use Rattle.meaning.specs.Words.{op_at, index_at, node_at}
 use Rattle.meaning.specs.Graph.{node, less}
 use Rattle.meaning.specs.declared.Layout.{Layout}

@@ -1,5 +1,5 @@
 use Rattle.table.proofs.Keys.{names, is_node, there, past_all, other_op, other_kids}
-use Rattle.meaning.specs.Laws.Tables.{kids_within}
+use Rattle.meaning.proofs.Laws.Tables.{kids_within}
 use native.Mathlib.Omega.{arith}
 use borrow.Author.Rules.{rules}
 use Rattle.table.proofs.lookup.lookup.Statement.{statement}

@@ -1,4 +1,4 @@
-use Rattle.meaning.specs.Laws.Tables.{record_within}
+use Rattle.meaning.proofs.Laws.Tables.{record_within}
 use native.Mathlib.Omega.{arith}
 use borrow.Author.Rules.{rules}
 use Rattle.words.proofs.areas.record_word.Statement.{statement}

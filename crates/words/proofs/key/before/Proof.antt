@@ -4,7 +4,7 @@ use mathlib.Core.Bool.{Bool, true, false}
 use mathlib.Core.List.{List}
 use lib.ListN.{length}
 use Rattle.meaning.specs.Graph.{node, smaller, less_kids, less}
-use Rattle.meaning.specs.Laws.Keys.{smaller_lt, smaller_gt, smaller_eq}
+use Rattle.meaning.proofs.Laws.Keys.{smaller_lt, smaller_gt, smaller_eq}
 use native.Mathlib.Omega.{arith}
 use borrow.Author.Rules.{rules}
 use Rattle.words.proofs.key.before.Statement.{statement}

@@ -7,7 +7,7 @@ use lib.Seq.{drop-cons}
 use lib.ListN.{drop_of_length-le}
 use native.Mathlib.Numerals.{add-one}
 use Rattle.meaning.specs.Graph.{smaller, less_kids}
-use Rattle.meaning.specs.Laws.Keys.{smaller_lt, smaller_gt, smaller_eq}
+use Rattle.meaning.proofs.Laws.Keys.{smaller_lt, smaller_gt, smaller_eq}
 use native.Mathlib.Omega.{arith}
 use borrow.Author.Rules.{rules}
 use Rattle.words.proofs.key.kids_before.Statement.{statement}

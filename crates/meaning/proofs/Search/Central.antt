@@ -13,10 +13,10 @@ use Rattle.meaning.specs.Program.{Instr, Held, vars, gives, at, rows, reg}
 use Rattle.meaning.specs.Compiler.{Item, item, number, Root}
 use Rattle.meaning.specs.Search.Listing.{Lists, shift, guarded, split}
 use Rattle.meaning.specs.Search.Order.{Compiles, done, new, again, same, look, spread, mix, join, scans, kept, apart}
-use Rattle.meaning.specs.Laws.Lookup.{Reads}
+use Rattle.meaning.proofs.Laws.Lookup.{Reads}
 use Rattle.meaning.specs.Search.Solve.{Means, Solves, Fit, File, Known}
 use Rattle.meaning.specs.Search.Fits.{fit_less, fit_mix, fit_new, fit_spread, fit_join, fit_scan, file_more}
-use Rattle.meaning.specs.Search.Moves.{finish, new_up, new_down, again_up, again_down, look_same, fits_long, spread_up, spread_down, spread_same, join_up, join_down, scan_up, scan_down, scan_same, mixed}
+use Rattle.meaning.proofs.Search.Moves.{finish, new_up, new_down, again_up, again_down, look_same, fits_long, spread_up, spread_down, spread_same, join_up, join_down, scan_up, scan_down, scan_same, mixed}
 
 -- THE CENTRAL LEMMA: whatever the order of the items, the rows are the assignments that solve the state, each once
 module _ {g : Graph} {p : Pattern} (reads : Reads g) (means : Means g p) where

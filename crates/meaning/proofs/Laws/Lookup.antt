@@ -13,7 +13,7 @@ use Rattle.meaning.specs.Tests.{Opt, none, some}
 use Rattle.meaning.specs.Lists.{All, NoDup, empty, more, all_of, nodup_left, nodup_right, nodup_apart}
 use Rattle.meaning.specs.Graph.{Graph, Node, node, is_key, has_key, lookup, nodes_of, ids, all_nodes, next, place_in, WellFormed}
 use Rattle.meaning.specs.Laws.Ascending.{lt_lt, ascends_once}
-use Rattle.meaning.specs.Laws.Keys.{key_is, is_key_lem}
+use Rattle.meaning.proofs.Laws.Keys.{key_is, is_key_lem}
 
 -- what the matcher may know of a graph: the nodes of a class and lookup agree, nothing twice, children are classes
 pub record Reads (g : Graph) : Type 0 where
@@ -34,6 +34,7 @@ key_mem o ks (n ∷ l) h = go (λ r. key_mem o ks l r) (is_key o ks n) refl h
 
 pub mem_key : (o : ℕ) (ks : List ℕ) (l : List Node) → Mem (node o ks) l → has_key o ks l ≡ true
 unfolding has_key
+mem_key o ks [] m = elim m [ ]
 mem_key o ks (n ∷ l) (head e) = rw (is_key_lem o ks n (sym e))
 mem_key o ks (n ∷ l) (tail m) = go (mem_key o ks l m) (is_key o ks n)
   where

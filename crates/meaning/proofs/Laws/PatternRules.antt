@@ -17,7 +17,7 @@ use Rattle.meaning.specs.PatternWords.{kind_at, number_at, degree_at, start_at, 
 use Rattle.meaning.specs.GoodPattern.{PatternLimits, PatternShape, Same, PatternNodes, MultiLimits, MultiShape, IsLone}
 use Rattle.meaning.specs.PatternRefusal.{some_below, good_pattern_limits, good_pattern_shape, good_below, good_part_at, good_parts, is_used, good_use, is_same, is_new, good_once, good_pattern_nodes, good_multi_limits, good_entry_at, good_multi_shape, lone_variable}
 use Rattle.meaning.specs.Laws.Joins.{joined_within}
-use Rattle.meaning.specs.Laws.Rules.{joined}
+use Rattle.meaning.proofs.Laws.Rules.{joined}
 
 -- some number below n passes
 pub some_found : (p : ℕ → Bool) (n : ℕ) → some_below p n ≡ true → (x : ℕ) × (x < n) × (p x ≡ true)

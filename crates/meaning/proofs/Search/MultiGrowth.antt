@@ -11,8 +11,8 @@ use Rattle.meaning.specs.Program.{vars, asg}
 use Rattle.meaning.specs.Multi.{compile_many, many_matches}
 use Rattle.meaning.specs.Search.Listing.{Lists}
 use Rattle.meaning.specs.Search.Rowlaws.{row_asg}
-use Rattle.meaning.specs.Search.Growth.{Grows, grows}
-use Rattle.meaning.specs.Search.MultiTheorem.{many_right, many_vars_once}
+use Rattle.meaning.proofs.Search.Growth.{Grows, grows}
+use Rattle.meaning.proofs.Search.MultiTheorem.{many_right, many_vars_once}
 
 module _ {g h : Graph} {φ : ℕ → ℕ} (w : WellFormed g) (u : WellFormed h) (m : Grows g h φ) where
   met_grows : (σ : ℕ → ℕ) {bs : List Bound} → All (λ b. Ordered b.pat) bs → All (Met g σ) bs → All (Met h (λ v. φ (σ v))) bs

@@ -6,7 +6,7 @@ use Rattle.meaning.specs.Tests.{apart, not_true_false}
 use Rattle.meaning.specs.Words.{layout_of}
 use Rattle.meaning.specs.Good.{Good, Limits, Shape, FindRule, ClassRule, NodeRule, IndexRule, Numbered, good, short, over, misplaced, find_broken, class_broken, node_broken, index_broken}
 use Rattle.meaning.specs.Refusal.{good_limits, good_shape, good_find, good_classes, good_nodes, good_index, areas_refusal, refusal_of}
-use Rattle.meaning.specs.Laws.Rules.{limits, is_limits, shape, is_shape, find, is_find, classes, is_classes, nodes, is_nodes, index, is_index}
+use Rattle.meaning.proofs.Laws.Rules.{limits, is_limits, shape, is_shape, find, is_find, classes, is_classes, nodes, is_nodes, index, is_index}
 
 never : {b : Bool} {P : Type 0} → b ≡ false → (P → b ≡ true) → P → ⊥
 never e f p = apart (sym (f p) ∙ e)

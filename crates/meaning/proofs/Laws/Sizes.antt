@@ -17,7 +17,7 @@ use Rattle.meaning.specs.PatternWords.{kind_at, number_at, children_of, pnode_at
 use Rattle.meaning.specs.GoodPattern.{PatternNodes, GoodPattern}
 use Rattle.meaning.specs.Laws.Built.{Local, value_at, value_out}
 use Rattle.meaning.specs.Laws.Instances.{sum_same, free_var, free_op, occ_op}
-use Rattle.meaning.specs.Laws.Patterns.{pattern_length, pattern_at, pnode_var, pnode_op, kids_of_lem, child_below, ordered, occ_at, parent}
+use Rattle.meaning.proofs.Laws.Patterns.{pattern_length, pattern_at, pnode_var, pnode_op, kids_of_lem, child_below, ordered, occ_at, parent}
 use Rattle.meaning.specs.Search.Order.{Stands, stands}
 
 size_local : Local size_of

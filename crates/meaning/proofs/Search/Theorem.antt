@@ -16,8 +16,8 @@ use Rattle.meaning.specs.Search.Listing.{Lists, shift}
 use Rattle.meaning.specs.Search.Order.{apart}
 use Rattle.meaning.specs.Search.Solve.{Known}
 use Rattle.meaning.specs.Search.Rowlaws.{row_asg}
-use Rattle.meaning.specs.Search.Central.{central}
-use Rattle.meaning.specs.Laws.Lookup.{reads}
+use Rattle.meaning.proofs.Search.Central.{central}
+use Rattle.meaning.proofs.Laws.Lookup.{reads}
 use Rattle.meaning.specs.Laws.Instances.{means}
 use Rattle.meaning.specs.Search.Compiled.{compile_right}
 

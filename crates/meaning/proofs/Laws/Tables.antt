@@ -20,10 +20,10 @@ use Rattle.meaning.specs.Words.{word, layout_of, find_at, id_at, first_at, count
 use Rattle.meaning.specs.Good.{Limits, Shape, Joined, Canonical, FindRule, ClassRule, NodeRule, IndexRule, Good, Placed, Sound}
 use Rattle.meaning.specs.Laws.Runs.{from_length, from_mem, mem_from, map_length, mem_run, run_mem, run_once}
 use Rattle.meaning.specs.Laws.Ascending.{lt_lt, ascends_run, rises_past}
-use Rattle.meaning.specs.Laws.Keys.{less_irrefl, less_trans, key_is, is_key_lem}
+use Rattle.meaning.proofs.Laws.Keys.{less_irrefl, less_trans, key_is, is_key_lem}
 use Rattle.meaning.specs.Laws.Joins.{joined_within, joined_find, joined_run}
 use Rattle.meaning.specs.Laws.Pigeons.{all_there}
-use Rattle.meaning.specs.Laws.Lookup.{class_found, lookup_none, place_none}
+use Rattle.meaning.proofs.Laws.Lookup.{class_found, lookup_none, place_none}
 
 -- with right offsets the areas stand where the counts say
 pub placed : (t : List ℕ) → Limits t → Shape t → Placed t (layout_of t)
@@ -56,6 +56,7 @@ mem_part n a t c m = let (x, b, e) = mem_at (take n (drop a t)) c m in
     (x, g, e ∙ get_or-take n (drop a t) x 0 g ∙ get_or-drop a t x 0)
   where
     mem_at : (l : List ℕ) (c : ℕ) → Mem c l → (x : ℕ) × (x < length l) × (c ≡ get_or l x 0)
+    mem_at [] c m = elim m [ ]
     mem_at (y ∷ l) c (head e) = (0, omega arith, e)
     mem_at (y ∷ l) c (tail k) = let (x, b, e) = mem_at l c k in (suc x, omega arith, e)
 

@@ -11,8 +11,8 @@ use Rattle.meaning.specs.Compiler.{compile}
 use Rattle.meaning.specs.Matching.{run_of, matches, matches_all}
 use Rattle.meaning.specs.Search.Listing.{Lists}
 use Rattle.meaning.specs.Search.Rowlaws.{row_asg}
-use Rattle.meaning.specs.Laws.Lookup.{ids_once}
-use Rattle.meaning.specs.Search.Theorem.{rows_right}
+use Rattle.meaning.proofs.Laws.Lookup.{ids_once}
+use Rattle.meaning.proofs.Search.Theorem.{rows_right}
 
 nodup_map : {A B : Type 0} (f : A → B) {l : List A} → ((x y : A) → f x ≡ f y → x ≡ y) → NoDup l → NoDup (map f l)
 nodup_map f i empty = empty

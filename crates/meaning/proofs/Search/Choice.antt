@@ -14,7 +14,7 @@ use Rattle.meaning.specs.Graph.{smaller}
 use Rattle.meaning.specs.Pattern.{PNode, op, Pattern, size}
 use Rattle.meaning.specs.Program.{Instr, bind, lookat, Held}
 use Rattle.meaning.specs.Compiler.{Item, Root, unbound, is_ground, late, ahead, best, choose, pick_at, is_leaf, taken}
-use Rattle.meaning.specs.Laws.Keys.{smaller_lt, smaller_eq, smaller_cases, smaller_trans}
+use Rattle.meaning.proofs.Laws.Keys.{smaller_lt, smaller_eq, smaller_cases, smaller_trans}
 
 module _ (p : Pattern) (B : List Held) where
   -- every free variable is bound now
@@ -115,6 +115,7 @@ best_first before tr ir d l (suc n) i h = go (before (get_or l n d) (get_or l (b
     go false e f k = ⊎_elim (λ q. apart (sym (rw q at k) ∙ e)) (λ q. f q k) (eq-or-lt_of_le (le_of_suc-le-suc h))
 
 mem_place : (d : Item) (l : List Item) (y : Item) → Mem y l → (i : ℕ) × (i < length l) × (y ≡ get_or l i d)
+mem_place d [] y m = elim m [ ]
 mem_place d (x ∷ l) y (head e) = (0, omega arith, e)
 mem_place d (x ∷ l) y (tail m) = let (i, h, e) = mem_place d l y m in (suc i, omega arith, e)
 

@@ -18,7 +18,7 @@ use Rattle.meaning.specs.Multi.{shift_node, flat, tops, compile_many}
 use Rattle.meaning.specs.Search.Order.{Stands, stands, kid_of}
 use Rattle.meaning.specs.Laws.Instances.{free_var, free_op, unions_same}
 use Rattle.meaning.specs.Search.Covers.{From, bound, within, tops as from-top, binders, covers, covers_roots, sources, free_at, no_var}
-use Rattle.meaning.specs.Search.MultiTheorem.{cast_stands, Placed, placed_binder, placed_node, placed_rest, placed_all, flat_ordered, root_of, many_compiles}
+use Rattle.meaning.proofs.Search.MultiTheorem.{cast_stands, Placed, placed_binder, placed_node, placed_rest, placed_all, flat_ordered, root_of, many_compiles}
 
 unions_map : (f : ℕ → List ℕ) (h : ℕ → ℕ) (cs : List ℕ) → unions f (map h cs) ≡ unions (λ c. f (h c)) cs
 unfolding unions
@@ -55,14 +55,14 @@ module _ {P : Pattern} (O : Ordered P) where
   bound_of : {a : ℕ} {m : List Bound} → Placed P a m → All (λ b. Ordered b.pat) m → (q : Root) → Mem q (tops a m) → (b : Bound) × Mem b m × Belongs P q b
   unfolding tops
   bound_of l nil q i = absurd (not-nil i)
-  bound_of l (cons {x = b} o os) q i = ⊎_elim (λ e. (b, head refl, subst (λ z. Belongs P z b) (sym e) (belongs l o)))
-      (λ r. let (c, k, h) = bound_of (placed_rest l) os q r in (c, tail k, h)) (cases_cons i)
+  bound_of {a} l (cons {x = b} o os) q i = ⊎_elim (λ e. (b, head refl, subst (λ z. Belongs P z b) (sym e) (belongs l o)))
+      (λ r. let (c, k, h) = bound_of {a = suc a + length b.pat} (placed_rest l) os q r in (c, tail k, h)) (cases_cons i)
 
   root_for : {a : ℕ} {m : List Bound} → Placed P a m → All (λ b. Ordered b.pat) m → (b : Bound) → Mem b m → (q : Root) × Mem q (tops a m) × Belongs P q b
   unfolding tops
   root_for l nil b i = absurd (not-nil i)
   root_for {a} l (cons {x = c} o os) b i = ⊎_elim (λ e. (root_of a c, head refl, subst (λ z. Belongs P (root_of a c) z) (sym e) (belongs l o)))
-      (λ r. let (q, k, h) = root_for (placed_rest l) os b r in (q, tail k, h)) (cases_cons i)
+      (λ r. let (q, k, h) = root_for {a = suc a + length c.pat} (placed_rest l) os b r in (q, tail k, h)) (cases_cons i)
 
 -- the variables of a multipattern
 abbrev pub VarOf : List Bound → ℕ → Type 0

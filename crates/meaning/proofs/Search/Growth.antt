@@ -15,9 +15,9 @@ use Rattle.meaning.specs.Compiler.{compile}
 use Rattle.meaning.specs.Matching.{matches}
 use Rattle.meaning.specs.Search.Order.{Stands, kid_of}
 use Rattle.meaning.specs.Search.Rowlaws.{some_all, all_some_lem, row_asg}
-use Rattle.meaning.specs.Laws.Lookup.{reads}
+use Rattle.meaning.proofs.Laws.Lookup.{reads}
 use Rattle.meaning.specs.Laws.Instances.{inst_var, inst_op, inst_out}
-use Rattle.meaning.specs.Search.Theorem.{rows_right, vars_once}
+use Rattle.meaning.proofs.Search.Theorem.{rows_right, vars_once}
 
 -- each node's image stands in its class's image, and images of classes are classes
 pub record Grows (g h : Graph) (φ : ℕ → ℕ) : Type 0 where

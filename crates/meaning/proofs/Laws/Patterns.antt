@@ -17,7 +17,7 @@ use Rattle.meaning.specs.PatternWords.{kind_at, number_at, degree_at, start_at, 
 use Rattle.meaning.specs.GoodPattern.{Same, PatternNodes, GoodPattern}
 use Rattle.meaning.specs.Laws.Runs.{map_length, map_at, run_once}
 use Rattle.meaning.specs.Laws.Joins.{joined_within, joined_find}
-use Rattle.meaning.specs.Laws.Tables.{mem_part}
+use Rattle.meaning.proofs.Laws.Tables.{mem_part}
 use Rattle.meaning.specs.Laws.Built.{value_at}
 use Rattle.meaning.specs.Laws.Instances.{occ_local}
 

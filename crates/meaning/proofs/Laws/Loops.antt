@@ -3,7 +3,7 @@ use Rattle.std.specs.Prelude.{ℕ, ◌+◌, ◌<◌, ◌≤◌, ◌≡◌, Bool,
 use Rattle.std.proofs.Common.{sym, ap, ◌∙◌, arith}
 use Rattle.meaning.specs.Tests.{and, and_fails_left, all_below, all_more, all_fails}
 use Rattle.meaning.specs.PatternRefusal.{some_below}
-use Rattle.meaning.specs.Laws.PatternRules.{found_some}
+use Rattle.meaning.proofs.Laws.PatternRules.{found_some}
 
 -- one more number passes
 pub more : (p : ℕ → Bool) (x : ℕ) (r : Bool) → r ≡ p x → r ≡ true → all_below p x ≡ true → all_below p (x + 1) ≡ true

@@ -21,11 +21,11 @@ use Rattle.meaning.specs.Multi.{shift_node, flat, tops, compile_many, many_match
 use Rattle.meaning.specs.Search.Listing.{Lists, shift}
 use Rattle.meaning.specs.Search.Order.{Stands, stands, kid_of, Compiles, apart}
 use Rattle.meaning.specs.Search.Solve.{Joined, Solves, Known}
-use Rattle.meaning.specs.Search.Central.{central}
-use Rattle.meaning.specs.Laws.Lookup.{reads}
+use Rattle.meaning.proofs.Search.Central.{central}
+use Rattle.meaning.proofs.Laws.Lookup.{reads}
 use Rattle.meaning.specs.Laws.Instances.{means, inst_var, inst_op}
 use Rattle.meaning.specs.Search.Compiled.{compile_roots_right}
-use Rattle.meaning.specs.Search.Theorem.{no_vars}
+use Rattle.meaning.proofs.Search.Theorem.{no_vars}
 
 pub cast_stands : {p : Pattern} {i j : ℕ} {x y : PNode} → i ≡ j → x ≡ y → Stands p i x → Stands p j y
 cast_stands e f s = record { inside = rw (← e) s.inside; same = rw (← e) (s.same ∙ f) }
@@ -139,7 +139,7 @@ module _ (g : Graph) {P : Pattern} (O : Ordered P) (σ : ℕ → ℕ) where
   all_met : {a : ℕ} {m : List Bound} → Placed P a m → All (λ b. Ordered b.pat) m → All (λ q. Joined g P σ q) (tops a m) → All (Met g σ) m
   unfolding tops
   all_met l nil j = nil
-  all_met {a} l (cons {x = b} {l = m} o os) j = go j (λ k. all_met (placed_rest l) os k)
+  all_met {a} l (cons {x = b} {l = m} o os) j = go j (λ k. all_met {a = suc a + length b.pat} (placed_rest l) os k)
     where
       go : All (λ q. Joined g P σ q) (root_of a b ∷ tops (suc a + length b.pat) m) → (All (λ q. Joined g P σ q) (tops (suc a + length b.pat) m) → All (Met g σ) m) → All (Met g σ) (b ∷ m)
       go (cons J k) f = cons (joined_met l o J) (f k)
@@ -147,13 +147,13 @@ module _ (g : Graph) {P : Pattern} (O : Ordered P) (σ : ℕ → ℕ) where
   all_joined : {a : ℕ} {m : List Bound} → Placed P a m → All (λ b. Ordered b.pat) m → All (Met g σ) m → All (λ q. Joined g P σ q) (tops a m)
   unfolding tops
   all_joined l nil nil = nil
-  all_joined l (cons o os) (cons M k) = cons (met_joined l o M) (all_joined (placed_rest l) os k)
+  all_joined {a} l (cons {x = b} o os) (cons M k) = cons (met_joined l o M) (all_joined {a = suc a + length b.pat} (placed_rest l) os k)
 
 -- every binder is a variable and every root a node
 sane_tops : {P : Pattern} {a : ℕ} {m : List Bound} → Placed P a m → All (λ b. Ordered b.pat) m → All (λ (r : Root). (v : ℕ) × Stands P r.binder (var v) × (r.top < length P)) (tops a m)
 unfolding tops
 sane_tops l nil = nil
-sane_tops {P} {a} l (cons {x = b} {l = m} o os) = cons {x = root_of a b} (b.binder, placed_binder l, top_in) (sane_tops (placed_rest l) os)
+sane_tops {P} {a} l (cons {x = b} {l = m} o os) = cons {x = root_of a b} (b.binder, placed_binder l, top_in) (sane_tops {a = suc a + length b.pat} (placed_rest l) os)
   where
     top_in : a + length b.pat < length P
     top_in = let r = o.rooted in let z = (placed_node l (length b.pat - 1) (omega arith)).inside in omega arith

@@ -12,7 +12,7 @@ use Rattle.meaning.specs.Pattern.{occurrences}
 use Rattle.meaning.specs.PatternWords.{pattern_of, part_at}
 use Rattle.meaning.specs.GoodPattern.{PatternLimits, PatternShape, PatternNodes, GoodPattern, PatternNumbered, MultiLimits, MultiShape, occurrences_to, IsLone, GoodRight, GoodMulti, RightNumbered, MultiNumbered}
 use Rattle.meaning.specs.PatternRefusal.{first_below, good_pattern_limits, good_pattern_shape, good_pattern_nodes, pattern_refusal, good_multi_limits, good_multi_shape, lone_variable, parts_refusal, right_refusal, multi_refusal}
-use Rattle.meaning.specs.Laws.PatternRules.{pattern_limits, is_pattern_limits, pattern_shape, is_pattern_shape, pattern_nodes, is_pattern_nodes, multi_limits, is_multi_limits, multi_shape, is_multi_shape, lone, is_lone}
+use Rattle.meaning.proofs.Laws.PatternRules.{pattern_limits, is_pattern_limits, pattern_shape, is_pattern_shape, pattern_nodes, is_pattern_nodes, multi_limits, is_multi_limits, multi_shape, is_multi_shape, lone, is_lone}
 
 never : {b : Bool} {P : Type 0} → b ≡ false → (P → b ≡ true) → P → ⊥
 never e f p = apart (sym (f p) ∙ e)

@@ -1,0 +1,12 @@
+-- Laws of the definitions, by what they speak of. Assumes nothing.
+pub mod Keys
+pub mod Blocks
+pub mod Rules
+pub mod Numbering
+pub mod Lookup
+pub mod PatternRules
+pub mod Loops
+pub mod PatternNumbering
+pub mod Tables
+pub mod Patterns
+pub mod Sizes
