@@ -1,5 +1,5 @@
 // A line so far: its kind, how many words it has, and the number that is being read.
-#[derive(Drop)]
+#[derive(Clone, Copy)]
 pub struct Line {
     pub kind: u8,
     pub count: usize,

@@ -14,7 +14,7 @@ ghost use Rattle.checker.specs.Opened.{Opened};
 use meaning::Layout;
 
 // A table's number, and where its areas stand if that is 0.
-#[derive(Drop)]
+#[derive(Clone, Copy)]
 pub struct Checked {
     pub number: u32,
     pub layout: Layout,

@@ -8,7 +8,7 @@ use meaning::Reg;
 pub type Code = [[u32; 7]; 263];
 
 // An instruction. Kind 0 is Bind, 1 Compare, 2 Lookup, 3 Scan.
-#[derive(Drop)]
+#[derive(Clone, Copy)]
 pub struct Instr {
     pub kind: u32,
     pub pattern: u32,

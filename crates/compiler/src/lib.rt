@@ -12,7 +12,7 @@ use meaning::Reg;
 
 // What the compiler has so far: instructions, bound variables and waiting items in its arrays, the
 // next register, and the set of the present pattern's variables that are bound.
-#[derive(Drop)]
+#[derive(Clone, Copy)]
 pub struct Compiler {
     pub code: usize,
     pub vars: usize,

@@ -8,7 +8,7 @@ use meaning::Reg;
 pub type Vars = [[u32; 2]; 264];
 
 // Where a variable is bound.
-#[derive(Drop)]
+#[derive(Clone, Copy)]
 pub enum Slot {
     At(Reg),
     Nothing,

@@ -2,16 +2,16 @@
 // The types that the definitions in specs/ share with the code. Nothing runs here.
 
 // A class id.
-#[derive(Drop)]
+#[derive(Clone, Copy)]
 pub struct Id(pub u32);
 
 // A register's number, never taken for a class id.
-#[derive(Drop)]
+#[derive(Clone, Copy)]
 pub struct Reg(pub u32);
 
 // Where the areas of a table stand, read once: document 01's counts I, C, N and K, the five
 // starts, and the words of a class record.
-#[derive(Drop)]
+#[derive(Clone, Copy)]
 pub struct Layout {
     pub i: usize,
     pub c: usize,
@@ -27,7 +27,7 @@ pub struct Layout {
 
 // What an entry answers: document 01's number, and the rows written, or the class, or 0.
 #[repr(C)]
-#[derive(Drop)]
+#[derive(Clone, Copy)]
 pub struct Answer {
     pub number: u32,
     pub count: u64,

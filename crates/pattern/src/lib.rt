@@ -13,7 +13,7 @@ ghost use Rattle.meaning.specs.PatternRefusal.{good_pattern_nodes};
 ghost use Rattle.pattern.specs.Laid.{Laid, Opened};
 
 // A pattern's counts, read once: nodes and children.
-#[derive(Drop)]
+#[derive(Clone, Copy)]
 pub struct Pattern {
     pub n: usize,
     pub k: usize,
@@ -30,7 +30,7 @@ impl Pattern {
 }
 
 // A pattern's number, and its counts and occurrences if that is 0.
-#[derive(Drop)]
+#[derive(Clone, Copy)]
 pub struct Checked {
     pub number: u32,
     pub pattern: Pattern,

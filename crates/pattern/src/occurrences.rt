@@ -9,7 +9,7 @@ use crate::{Pattern, nodes};
 
 // x, or one past the limit if it is more.
 fn capped(x: u32) -> u32
-    ensures* { do ⌜ (result ≡ capped x) × (result ≤ (← (⟦Pattern::MAX_OCCURRENCES⟧).entry) + 1) ⌝ }
+    ensures { (result ≡ capped x) × (result ≤ Pattern.MAX_OCCURRENCES + 1) }
 {
     if x <= Pattern::MAX_OCCURRENCES {
         return x;

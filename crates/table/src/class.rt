@@ -8,7 +8,7 @@ use meaning::{Id, Layout};
 use words::areas;
 
 // The nodes of a class: the first one's number, and how many there are.
-#[derive(Drop)]
+#[derive(Clone, Copy)]
 pub struct Span {
     pub first: usize,
     pub count: usize,

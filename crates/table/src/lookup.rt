@@ -8,7 +8,7 @@ use meaning::{Id, Layout};
 use words::{areas, key};
 
 // What a lookup finds: the node's number and its class, or nothing.
-#[derive(Drop)]
+#[derive(Clone, Copy)]
 pub enum Found {
     At(usize, Id),
     Nothing,

@@ -1,0 +1,17 @@
+use Rattle.compiler.specs.Arrays.{goes_first}
+use Rattle.meaning.specs.Compiler.{best}
+use native.Mathlib.Numerals.{add-one}
+use lib.ListN.{get_or}
+use mathlib.Core.List.{List, [], ◌∷◌}
+use mathlib.Core.Bool.{Bool, true, false, cond}
+use mathlib.Core.Path.{◌≡◌, refl, sym, ap, ◌∙◌}
+use Prim.Native.Nat.{ℕ, ◌+◌, ◌-◌, ◌<◌, ◌≤◌}
+use native.Mathlib.Omega.{arith}
+use borrow.Author.Rules.{rules}
+use Rattle.compiler.proofs.items.next.Given as goal
+
+abbrev pub invariant-loop-i : goal.invariant-loop-i
+invariant-loop-i l = (l.i ≤ l.n) × (l.b < l.n) × (l.b ≡ best (goes_first l.free l.size l.bound) [] l.items l.i)
+
+abbrev pub decreases-loop-i : goal.decreases-loop-i
+decreases-loop-i l = l.n - l.i

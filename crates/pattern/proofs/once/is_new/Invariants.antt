@@ -1,0 +1,16 @@
+use Rattle.meaning.specs.PatternRefusal.{is_same, is_new}
+use Rattle.meaning.specs.Tests.{all_below}
+use mathlib.Core.Bool.{not}
+use Rattle.meaning.proofs.Laws.Loops.{more, broken, passed}
+use mathlib.Core.List.{List}
+use mathlib.Core.Bool.{Bool, true, false}
+use mathlib.Core.Path.{◌≡◌, refl, sym, ap, ◌∙◌}
+use Prim.Native.Nat.{ℕ, ◌+◌, ◌-◌, ◌<◌, ◌≤◌}
+use borrow.Author.Rules.{rules}
+use Rattle.pattern.proofs.once.is_new.Given as goal
+
+abbrev pub invariant-loop-i : goal.invariant-loop-i
+invariant-loop-i l = (l.i ≤ l.j) × (all_below (λ x. not (is_same l.w x l.j)) l.i ≡ true)
+
+abbrev pub decreases-loop-i : goal.decreases-loop-i
+decreases-loop-i l = l.j - l.i

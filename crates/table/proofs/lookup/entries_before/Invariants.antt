@@ -1,0 +1,16 @@
+use Rattle.table.proofs.Bisect.{up, down, entries_fall}
+use Rattle.table.specs.Lookups.{entry_before}
+use Rattle.meaning.specs.Laws.Bisection.{Bracket, bracket_start, bracket_met}
+use mathlib.Core.List.{List}
+use mathlib.Core.Bool.{Bool, true, false}
+use mathlib.Core.Path.{◌≡◌, refl, sym, ap, ◌∙◌}
+use Prim.Native.Nat.{ℕ, ◌+◌, ◌-◌, ◌/◌, ◌<◌, ◌≤◌}
+use native.Mathlib.Omega.{arith}
+use borrow.Author.Rules.{rules}
+use Rattle.table.proofs.lookup.entries_before.Given as goal
+
+abbrev pub invariant-loop-lo : goal.invariant-loop-lo
+invariant-loop-lo l = Bracket (entry_before l.t l.l l.o l.kids) l.l.n l.lo l.hi
+
+abbrev pub decreases-loop-lo : goal.decreases-loop-lo
+decreases-loop-lo l = l.hi - l.lo

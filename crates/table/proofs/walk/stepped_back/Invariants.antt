@@ -1,0 +1,16 @@
+use Rattle.table.proofs.Blocks.{stopped, at_front, further}
+use Rattle.meaning.specs.Words.{node_at}
+use Rattle.meaning.specs.Graph.{fits}
+use mathlib.Core.List.{List}
+use mathlib.Core.Bool.{Bool, true, false}
+use mathlib.Core.Path.{◌≡◌, refl, sym, ap, ◌∙◌}
+use Prim.Native.Nat.{ℕ, ◌+◌, ◌-◌, ◌/◌, ◌<◌, ◌≤◌}
+use native.Mathlib.Omega.{arith}
+use borrow.Author.Rules.{rules}
+use Rattle.table.proofs.walk.stepped_back.Given as goal
+
+abbrev pub invariant-loop-k : goal.invariant-loop-k
+invariant-loop-k l = (l.k ≤ l.from) × ((j : ℕ) → l.k ≤ j → j < l.from → fits l.o l.a (node_at l.t l.l (l.first + j)) ≡ true)
+
+abbrev pub decreases-loop-k : goal.decreases-loop-k
+decreases-loop-k l = l.k
