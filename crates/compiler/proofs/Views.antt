@@ -1,7 +1,7 @@
 -- The compiler's counts and arrays as lists, one more of each. Assumes nothing.
 use Prim.Native.Nat.{ℕ, zero, suc, ◌+◌, ◌^◌, ◌<◌, ◌≤◌}
 use mathlib.Core.Path.{◌≡◌, refl, sym, ap, ◌∙◌}
-use mathlib.Core.List.{List, [], ◌∷◌, ◌++◌, map, map_append}
+use mathlib.Core.List.{List, [], ◌∷◌, ◌++◌, map, map-append}
 use lib.Bits.{bit_or}
 use lib.ListN.{length, take, set, length-set, length-take}
 use native.Mathlib.Numerals.{add-one}
@@ -28,11 +28,11 @@ take_more a n x h = rw add-one (take_set a n x h)
 
 pub helds_more : (a : List (List ℕ)) (n v r : ℕ) → n < length a → helds_of (set a n (v ∷ r ∷ [])) (n + 1) ≡ helds_of a n ++ (held v (reg r) ∷ [])
 unfolding helds_of
-helds_more a n v r h = ap (map held_of) (take_more a n (v ∷ r ∷ []) h) ∙ map_append held_of (take n a) ((v ∷ r ∷ []) ∷ [])
+helds_more a n v r h = ap (map held_of) (take_more a n (v ∷ r ∷ []) h) ∙ map-append held_of (take n a) ((v ∷ r ∷ []) ∷ [])
 
 pub items_more : (a : List (List ℕ)) (n v r : ℕ) → n < length a → items_of (set a n (v ∷ r ∷ [])) (n + 1) ≡ items_of a n ++ (item v (reg r) ∷ [])
 unfolding items_of
-items_more a n v r h = ap (map item_of) (take_more a n (v ∷ r ∷ []) h) ∙ map_append item_of (take n a) ((v ∷ r ∷ []) ∷ [])
+items_more a n v r h = ap (map item_of) (take_more a n (v ∷ r ∷ []) h) ∙ map-append item_of (take n a) ((v ∷ r ∷ []) ∷ [])
 
 module _ (w : List ℕ) (place node : ℕ) (r : Reg) (c : Compiler) (code vars items : List (List ℕ)) (s : Sized c code vars items) (m : Room c 1) where
   -- a variable bound before

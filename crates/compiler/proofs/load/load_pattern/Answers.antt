@@ -42,7 +42,7 @@ pub loop-i-init : goal.loop-i-init
 loop-i-init c = (search rules, c.requires.3, c.requires.4, (λ j h. absurd (omega arith)), (λ j h. absurd (omega arith)))
 
 pub loop-i-preserved : goal.loop-i-preserved
-loop-i-preserved c = (search rules, rw length-set c.loop-i.invariant.1, rw length-set c.loop-i.invariant.2, freed c.args.w.now c.loop-i.frees c.loop-i.i _ (search rules) c.Free_of.ensures c.loop-i.invariant.3, sized c.args.w.now c.loop-i.sizes c.loop-i.i _ (search rules) c.type_size.ensures c.loop-i.invariant.4)
+loop-i-preserved c = (search rules, rw length-set c.loop-i.invariant.1, rw length-set c.loop-i.invariant.2, freed c.args.w.now c.loop-i.frees c.loop-i.i _ (search rules) c.free_of-f.ensures c.loop-i.invariant.3, sized c.args.w.now c.loop-i.sizes c.loop-i.i _ (search rules) c.size_of-s.ensures c.loop-i.invariant.4)
 
 pub returns : goal.returns
 returns c = done c.args.w.now c.loop-i.frees c.loop-i.sizes c.args.p _ c.loop-i.i c.requires.0 refl c.loop-i-test.false c.loop-i.invariant.3 c.loop-i.invariant.4

@@ -15,11 +15,8 @@ use Rattle.meaning.specs.Laws.Sums.{sum_take}
 use Rattle.meaning.specs.Pattern.{sum, size}
 use native.Mathlib.Omega.{arith}
 use borrow.Author.Rules.{rules}
+use Rattle.compiler.proofs.load.size_of.Invariants.{so_far}
 use Rattle.compiler.proofs.load.size_of.Goals as goal
-
--- the node itself, and its first x children's operators
-abbrev so_far : List ℕ → ℕ → ℕ → ℕ
-so_far w i x = 1 + sum (size (pattern_of w)) (take x (children_of w i))
 
 start : (w : List ℕ) (i : ℕ) → 1 ≡ so_far w i 0
 unfolding sum

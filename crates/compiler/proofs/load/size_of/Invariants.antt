@@ -17,6 +17,10 @@ use native.Mathlib.Omega.{arith}
 use borrow.Author.Rules.{rules}
 use Rattle.compiler.proofs.load.size_of.Given as goal
 
+-- the node itself, and its first x children's operators
+abbrev pub so_far : List ℕ → ℕ → ℕ → ℕ
+so_far w i x = 1 + sum (size (pattern_of w)) (take x (children_of w i))
+
 abbrev pub invariant-loop-x : goal.invariant-loop-x
 invariant-loop-x l = (l.x ≤ l.n) × (l.s ≡ so_far l.w l.i l.x) × (l.s ≤ 1 + 256 * l.x)
 

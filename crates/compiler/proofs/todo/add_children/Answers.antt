@@ -40,7 +40,7 @@ module _ (w : List ℕ) (place : ℕ) (cs : List ℕ) (l : Local) (k₀ k n x ch
   less = room_after e n x h (room_less w place child (reg k) d e code vars items code' vars' items' (n - x) s t u (omega arith) r)
 
 pub loop-x-init : goal.loop-x-init
-loop-x-init c = (search rules, sym (add-zero _), none_yet c.args.w.now c.args.place _ _ _, c.requires.3, room_start c.args.c _ _ c.degree_at-n.ensures.0 c.requires.4)
+loop-x-init c = (search rules, sym (add-zero _), none_yet c.args.w.now c.args.place _ (children_of c.args.w.now c.args.node) _, c.requires.3, room_start c.args.c _ _ c.degree_at-n.ensures.0 c.requires.4)
 
 pub child_of-child-requires : goal.child_of-child-requires
 child_of-child-requires c = (c.requires.0, within c.args.w.now c.args.p c.args.node _ _ c.loop-x.x c.requires.0 c.requires.1 c.requires.2 c.start_at-first.ensures.0 c.degree_at-n.ensures.0 c.loop-x-test.true)
