@@ -1,3 +1,6 @@
+use std::io;
+use std::io::Write;
+
 // A line so far: its kind, how many words it has, and the number that is being read.
 #[derive(Clone, Copy)]
 pub struct Line {
@@ -39,21 +42,21 @@ impl Line {
     }
 
     // The line after byte b. The bytes of a title are written out.
-    pub fn with(mut self, words: &mut [u32], b: u8) -> Self {
+    pub fn with<W: Write>(mut self, out: &mut W, words: &mut [u32], b: u8) -> io::Result<Self> {
         if self.kind == 0 {
             self.kind = b;
         }
         if self.kind == b'#' {
-            io::write_all(1, &[b]);
-            return self;
+            out.write_all(&[b])?;
+            return Ok(self);
         }
         if b'0' <= b {
             if b <= b'9' {
                 self.number = (self.number % 4294967296) * 10 + ((b - b'0') as u64);
                 self.digits = true;
-                return self;
+                return Ok(self);
             }
         }
-        self.ended(words)
+        Ok(self.ended(words))
     }
 }

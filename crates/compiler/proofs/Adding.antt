@@ -1,7 +1,7 @@
 -- Nodes met one after another. Assumes nothing.
-use Prim.Native.Nat.{ℕ, zero, suc, ◌+◌, ◌-◌, ◌<◌, ◌≤◌}
-use mathlib.Core.Path.{◌≡◌, refl, sym, ap, ◌∙◌}
-use mathlib.Core.List.{List, [], ◌∷◌, ◌++◌, map}
+use Prim.Native.Nat.{ℕ, suc, ◌+◌, ◌-◌, ◌<◌, ◌≤◌}
+use mathlib.Core.Path.{◌≡◌, ap, ◌∙◌}
+use mathlib.Core.List.{List, [], ◌∷◌, ◌++◌}
 use mathlib.Core.Bool.{Bool, true, false, cond}
 use lib.Dec.{eqb}
 use lib.ListN.{length, take, get_or, length-append, length-take, length-map}
@@ -12,11 +12,11 @@ use native.Mathlib.Omega.{arith}
 use Rattle.meaning.specs.declared.Reg.{Reg}
 use Rattle.meaning.specs.Tests.{Opt, none, some}
 use Rattle.meaning.specs.PatternWords.{kind_at, number_at}
-use Rattle.meaning.specs.Program.{reg, Held}
-use Rattle.meaning.specs.Compiler.{Item, reg_of}
+use Rattle.meaning.specs.Program.{reg}
+use Rattle.meaning.specs.Compiler.{reg_of}
 use Rattle.compiler.specs.declared.Compiler.{Compiler}
-use Rattle.compiler.specs.Arrays.{held_of, helds_of}
-use Rattle.compiler.specs.Local.{Local, local, item_of, items_of, view, Sized, Room, add_var, add_todo, add_all}
+use Rattle.compiler.specs.Arrays.{helds_of}
+use Rattle.compiler.specs.Local.{Local, local, items_of, view, Sized, Room, add_var, add_todo, add_all}
 
 -- at most n more of each
 pub record Within (n : ℕ) (l m : Local) : Type 0 where

@@ -1,5 +1,5 @@
 -- An operator that waited, taken. Assumes nothing.
-use Rattle.std.proofs.Common.{ℕ, ◌+◌, ◌-◌, ◌<◌, ◌≤◌, ◌≡◌, refl, sym, ap, ◌∙◌, List, [], ◌∷◌, ◌++◌, Bool, true, false, cond, length, take, set, length-set, eq-eqb, ne_eqb, arith}
+use Rattle.std.proofs.Common.{ℕ, ◌+◌, ◌≤◌, ◌≡◌, List, [], ◌∷◌, Bool, true, false, set, length-set, eq-eqb, ne_eqb, arith}
 use Rattle.std.proofs.Math.Bool.{not}
 use Rattle.std.proofs.Math.Nat.{sub-zero}
 use lib.Dec.{eqb}
@@ -7,11 +7,11 @@ use Rattle.meaning.specs.declared.Reg.{Reg}
 use Rattle.meaning.specs.Tests.{and, and_both, and_fails_left, and_fails_right}
 use Rattle.meaning.specs.Words.{word}
 use Rattle.meaning.specs.PatternWords.{number_at, degree_at, children_of}
-use Rattle.meaning.specs.Program.{bind, lookat, reg}
-use Rattle.meaning.specs.Records.{alone, record_of}
+use Rattle.meaning.specs.Program.{reg}
+use Rattle.meaning.specs.Records.{record_of}
 use Rattle.compiler.specs.declared.Compiler.{Compiler}
 use Rattle.compiler.specs.Arrays.{free_count}
-use Rattle.compiler.specs.Local.{Local, local, item_of, view, Sized, add_all, take_item}
+use Rattle.compiler.specs.Local.{item_of, view, Sized, add_all, take_item}
 use Rattle.compiler.proofs.Views.{take_more}
 
 -- not a leaf

@@ -1,22 +1,21 @@
 -- The compiler's counts and arrays as lists, one more of each. Assumes nothing.
-use Prim.Native.Nat.{ℕ, zero, suc, ◌+◌, ◌^◌, ◌<◌, ◌≤◌}
-use mathlib.Core.Path.{◌≡◌, refl, sym, ap, ◌∙◌}
+use Prim.Native.Nat.{ℕ, zero, suc, ◌+◌, ◌^◌, ◌<◌}
+use mathlib.Core.Path.{◌≡◌, refl, ap, ◌∙◌}
 use mathlib.Core.List.{List, [], ◌∷◌, ◌++◌, map, map-append}
 use lib.Bits.{bit_or}
-use lib.ListN.{length, take, set, length-set, length-take}
+use lib.ListN.{length, take, set, length-set}
 use native.Mathlib.Numerals.{add-one}
 use native.Mathlib.Omega.{arith}
 use borrow.Author.Tests.{eq-eqb, ne_eqb}
 use Rattle.meaning.specs.declared.Reg.{Reg}
-use Rattle.meaning.specs.Tests.{Opt, none, some}
-use Rattle.meaning.specs.Words.{word}
+use Rattle.meaning.specs.Tests.{none, some}
 use Rattle.meaning.specs.PatternWords.{kind_at, number_at}
 use Rattle.meaning.specs.Program.{reg, held}
 use Rattle.meaning.specs.Compiler.{item, reg_of}
 use Rattle.meaning.specs.Records.{record_of}
 use Rattle.compiler.specs.declared.Compiler.{Compiler}
 use Rattle.compiler.specs.Arrays.{held_of, helds_of}
-use Rattle.compiler.specs.Local.{Local, local, item_of, items_of, view, Sized, Room, add_var, add_todo}
+use Rattle.compiler.specs.Local.{item_of, items_of, view, Sized, Room, add_var, add_todo}
 
 take_set : {A : Type 0} (a : List A) (n : ℕ) (x : A) → n < length a → take (suc n) (set a n x) ≡ take n a ++ (x ∷ [])
 take_set [] n x h = absurd (omega arith)

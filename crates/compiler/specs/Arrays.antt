@@ -1,5 +1,5 @@
 -- What the compiler's arrays hold. Assumes nothing.
-use Rattle.std.specs.Prelude.{ℕ, ◌+◌, ◌-◌, ◌^◌, List, [], ◌∷◌, map, Bool, eqb, ltb, take}
+use Rattle.std.specs.Prelude.{ℕ, ◌-◌, ◌^◌, List, [], ◌∷◌, map, Bool, eqb, ltb, take}
 use Rattle.std.specs.Int.Bits.{bit_and}
 use Rattle.std.specs.Int.Count.{ones}
 use Rattle.meaning.specs.declared.Reg.{Reg}
@@ -7,7 +7,7 @@ use Rattle.meaning.specs.Tests.{Opt, none, some}
 use Rattle.meaning.specs.Graph.{smaller}
 use Rattle.meaning.specs.Words.{word}
 use Rattle.meaning.specs.Program.{reg, Held, held}
-use Rattle.meaning.specs.Compiler.{Item, item, late}
+use Rattle.meaning.specs.Compiler.{late}
 use Rattle.compiler.specs.declared.instr.Instr.{Instr}
 use Rattle.compiler.specs.declared.vars.Slot.{Slot}
 use Rattle.compiler.specs.declared.vars.Slot.TheVariants.{At, Nothing}

@@ -1,13 +1,13 @@
 -- What the compiler has so far, and what each of its functions makes of it. Assumes nothing.
-use Rattle.std.specs.Prelude.{ℕ, suc, ◌+◌, ◌^◌, ◌<◌, ◌≤◌, ◌≡◌, List, [], ◌∷◌, ◌++◌, map, Bool, cond, not, eqb, length, take}
+use Rattle.std.specs.Prelude.{ℕ, suc, ◌+◌, ◌^◌, ◌≤◌, ◌≡◌, List, [], ◌∷◌, ◌++◌, map, cond, not, eqb, length, take}
 use Rattle.std.specs.Int.Bits.{bit_or}
 use Rattle.meaning.specs.declared.Reg.{Reg}
 use Rattle.meaning.specs.Tests.{Opt, none, some, and}
 use Rattle.meaning.specs.Words.{word}
 use Rattle.meaning.specs.PatternWords.{kind_at, number_at, degree_at, children_of}
-use Rattle.meaning.specs.Program.{Instr, bind, compare, lookat, reg, Held, held}
+use Rattle.meaning.specs.Program.{bind, compare, lookat, reg, Held, held}
 use Rattle.meaning.specs.Compiler.{Item, item, reg_of}
-use Rattle.meaning.specs.Records.{Frame, alone, record_of}
+use Rattle.meaning.specs.Records.{alone, record_of}
 use Rattle.compiler.specs.declared.Compiler.{Compiler}
 use Rattle.compiler.specs.Arrays.{helds_of, free_count}
 

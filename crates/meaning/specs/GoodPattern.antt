@@ -1,9 +1,9 @@
 -- When a pattern and a multipattern are good: document 01's rules, a line each. Assumes nothing.
-use Rattle.std.specs.Prelude.{ℕ, suc, ◌+◌, ◌*◌, ◌-◌, ◌<◌, ◌≤◌, ◌≡◌, ◌⊎◌, List, [], ◌∷◌, map, length}
+use Rattle.std.specs.Prelude.{ℕ, suc, ◌+◌, ◌*◌, ◌<◌, ◌≤◌, ◌≡◌, List, [], ◌∷◌, length}
 use Rattle.meaning.specs.Ranges.{from}
 use Rattle.meaning.specs.Words.{word}
 use Rattle.meaning.specs.Good.{JoinedFrom, Joined}
-use Rattle.meaning.specs.Pattern.{PNode, var, Pattern, Bound, sum, occurrences}
+use Rattle.meaning.specs.Pattern.{var, Pattern, sum, occurrences}
 use Rattle.meaning.specs.PatternWords.{kind_at, number_at, degree_at, start_at, child_of, children_of, pattern_of, offset_at, length_at, part_at}
 
 module _ (w : List ℕ) where

@@ -1,5 +1,5 @@
 -- A graph of classes, and the class of a key. Assumes nothing.
-use Rattle.std.specs.Prelude.{ℕ, zero, suc, ◌<◌, ◌≡◌, Bool, true, false, cond, eqb, ltb, length}
+use Rattle.std.specs.Prelude.{ℕ, suc, ◌<◌, ◌≡◌, Bool, true, false, cond, eqb, ltb, length}
 use mathlib.Core.List.{List, [], ◌∷◌, map, flat_map}
 use mathlib.Core.List.{Memᴰ as Mem}
 use Rattle.meaning.specs.Tests.{Opt, none, some, and, same_list}

@@ -1,5 +1,5 @@
 -- The refusal number of a pattern and of a multipattern, computed from any words. Assumes nothing.
-use Rattle.std.specs.Prelude.{ℕ, zero, suc, ◌+◌, ◌*◌, ◌-◌, List, [], ◌∷◌, Bool, true, false, cond, not, length, eqb, ltb, leb}
+use Rattle.std.specs.Prelude.{ℕ, zero, suc, ◌+◌, ◌*◌, ◌-◌, List, Bool, true, cond, not, length, eqb, ltb, leb}
 use Rattle.meaning.specs.Tests.{and, all_below, same_list}
 use Rattle.meaning.specs.Ranges.{end_from, end_before}
 use Rattle.meaning.specs.Words.{word}

@@ -1,9 +1,9 @@
 -- Programs, their paths and rows. Assumes nothing.
-use Rattle.std.specs.Prelude.{ℕ, suc, Bool, cond, get_or, eqb}
+use Rattle.std.specs.Prelude.{ℕ, suc, cond, get_or, eqb}
 use mathlib.Core.List.{List, [], ◌∷◌, ◌++◌, map, flat_map}
 use Rattle.meaning.specs.declared.Reg.{Reg}
 use Rattle.meaning.specs.Tests.{is_class}
-use Rattle.meaning.specs.Graph.{Graph, Node, nodes_of, ids, fits}
+use Rattle.meaning.specs.Graph.{Graph, nodes_of, ids, fits}
 use Rattle.meaning.specs.Pattern.{Pattern}
 use Rattle.meaning.specs.Instance.{inst}
 

@@ -1,5 +1,5 @@
 -- Runs of numbers, what is kept of a list, and ranges that join end to end. Assumes nothing.
-use Rattle.std.specs.Prelude.{ℕ, zero, suc, ◌+◌, List, [], ◌∷◌, Bool, cond, ◌≡◌}
+use Rattle.std.specs.Prelude.{ℕ, zero, suc, ◌+◌, List, [], ◌∷◌, Bool, cond}
 
 -- a, a + 1, .., n of them
 unfoldable pub from : ℕ → ℕ → List ℕ

@@ -2,7 +2,6 @@
 use Rattle.std.specs.Prelude.{ℕ, suc, ◌+◌, ◌-◌, List, [], ◌∷◌, map, length, get_or, take}
 use Rattle.meaning.specs.Pattern.{Bound}
 use Rattle.meaning.specs.Program.{Instr, bind, compare, lookat, scan}
-use Rattle.meaning.specs.Compiler.{Root}
 use Rattle.meaning.specs.Multi.{tops}
 
 -- a pattern's place, from the patterns that come after it, and the number of its first node, from its place

@@ -1,6 +1,6 @@
 -- Tests that compute, and the facts that they stand for. Assumes nothing.
-use Rattle.std.specs.Prelude.{ℕ, zero, suc, ◌+◌, ◌<◌, ◌≤◌, ◌≡◌, refl, List, [], ◌∷◌, Bool, true, false, cond, ◌⊎◌, eqb}
-use Rattle.std.proofs.Common.{sym, ap, ◌∙◌, inl, inr, ⊎_elim, add-one, arith, eq-or-lt_of_le, le_of_suc-le-suc, eqb-true, eq-eqb}
+use Rattle.std.specs.Prelude.{ℕ, zero, suc, ◌+◌, ◌<◌, ◌≡◌, refl, List, [], ◌∷◌, Bool, true, false, eqb}
+use Rattle.std.proofs.Common.{sym, ap, ◌∙◌, ⊎_elim, add-one, arith, eq-or-lt_of_le, le_of_suc-le-suc, eqb-true, eq-eqb}
 
 -- something, or nothing
 pub data Opt (A : Type 0) : Type 0 where

@@ -1,13 +1,11 @@
 -- One turn of a bisection, as the code halves, and the tests that fall. Assumes nothing.
-use Prim.Native.Nat.{ℕ, ◌+◌, ◌-◌, ◌/◌, ◌<◌, ◌≤◌}
+use Prim.Native.Nat.{ℕ, ◌+◌, ◌-◌, ◌/◌, ◌<◌}
 use mathlib.Core.Path.{◌≡◌, sym, ◌∙◌}
 use mathlib.Core.Bool.{Bool, true, false}
 use mathlib.Core.List.{List}
-use lib.Dec.{ltb}
-use borrow.Author.Tests.{lt-ltb, le-ltb, ltb-true}
+use borrow.Author.Tests.{lt-ltb, ltb-true}
 use native.Mathlib.Omega.{arith}
 use Rattle.meaning.specs.declared.Layout.{Layout}
-use Rattle.meaning.specs.Graph.{Node, node, less}
 use Rattle.meaning.specs.Words.{id_at}
 use Rattle.meaning.specs.Good.{Sound}
 use Rattle.meaning.proofs.Laws.Keys.{less_trans}

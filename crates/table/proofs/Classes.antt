@@ -1,21 +1,18 @@
 -- The class record at which an id must stand, and its nodes. Assumes nothing.
-use Prim.Native.Nat.{ℕ, suc, ◌+◌, ◌<◌, ◌≤◌}
+use Prim.Native.Nat.{ℕ, ◌<◌, ◌≤◌}
 use mathlib.Core.Path.{◌≡◌, refl, sym, ap, ◌∙◌}
 use mathlib.Core.Bool.{Bool, true, false}
 use mathlib.Core.List.{List}
-use mathlib.Core.List.{Memᴰ as Mem}
 use lib.Dec.{ltb}
-use borrow.Author.Tests.{ltb-true, ltb-false, lt-ltb, le-ltb}
+use borrow.Author.Tests.{ltb-true, ltb-false}
 use native.Mathlib.Omega.{arith}
 use Rattle.meaning.specs.declared.Layout.{Layout}
 use Rattle.meaning.specs.Ranges.{from, leading}
-use Rattle.meaning.specs.Graph.{ids}
-use Rattle.meaning.specs.Words.{id_at, first_at, count_at, graph_at}
+use Rattle.meaning.specs.Words.{id_at, first_at, count_at}
 use Rattle.meaning.specs.Good.{Sound}
 use Rattle.meaning.specs.Laws.Joins.{joined_within}
 use Rattle.meaning.proofs.Laws.Tables.{ids_rise, id_canonical, class_nodes, no_class}
-use Rattle.meaning.specs.Laws.Bisection.{leading_le, leading_holds, leading_fails}
-use Rattle.table.specs.declared.class.Span.{Span}
+use Rattle.meaning.specs.Laws.Bisection.{leading_holds, leading_fails}
 use Rattle.table.specs.Spans.{id_below, Spans}
 
 module _ {t : List ℕ} {l : Layout} (s : Sound t l) (c j : ℕ) (d : j ≡ leading (id_below t l c) l.c) where

@@ -1,8 +1,6 @@
 use Rattle.meaning.proofs.Laws.Rules.{classes, nodes}
 use Rattle.meaning.specs.Refusal.{areas_refusal}
 use mathlib.Core.Path.{sym, ◌∙◌}
-use native.Mathlib.Omega.{arith}
-use borrow.Author.Rules.{rules}
 use Rattle.checker.proofs.areas_refusal.Goals as goal
 
 pub good-requires-then-good-2 : goal.good-requires-then-good-2
@@ -30,4 +28,3 @@ returns-else-good-2 c = simp (sym c.good.ensures ∙ c.if-good.true, sym c.good-
 pub returns-else-good : goal.returns-else-good
 unfolding areas_refusal
 returns-else-good c = simp (sym c.good.ensures ∙ c.if-good.false)
-

@@ -62,4 +62,3 @@ returns-then-good_limits c = record { number = misplaced _ c.if-t-lt9.false _ c.
 
 pub returns : goal.returns
 returns c = record { number = over _ c.if-t-lt9.false _ c.good_limits.ensures c.if-good_limits.false; layout = λ e. never 2 (omega arith) e }
-

@@ -1,11 +1,11 @@
 -- The nodes of one operator and arity stand together in a class. Assumes nothing.
-use Rattle.std.specs.Prelude.{ℕ, zero, suc, ◌+◌, ◌<◌, ◌≤◌, ◌≡◌, refl, Bool, true, false, cond, ◌⊎◌, ltb, eqb, length}
-use Rattle.std.proofs.Common.{sym, ap, ◌∙◌, arith}
+use Rattle.std.specs.Prelude.{ℕ, ◌<◌, ◌≤◌, ◌≡◌, refl, Bool, true, false, ◌⊎◌, ltb, length}
+use Rattle.std.proofs.Common.{sym, ◌∙◌, arith}
 use Rattle.std.proofs.Math.Logic.{inl, inr, ⊎_elim}
-use borrow.Author.Tests.{ltb-true, ltb-false, lt-ltb, le-ltb, eqb-true, eq-eqb}
-use Rattle.meaning.specs.Tests.{and, apart, and_left, and_right, and_both, not_true_false}
+use borrow.Author.Tests.{ltb-true, ltb-false, lt-ltb, eqb-true, eq-eqb}
+use Rattle.meaning.specs.Tests.{apart, and_left, and_right, and_both, not_true_false}
 use Rattle.meaning.specs.Graph.{Node, smaller, less_kids, less, fits, before_block}
-use Rattle.meaning.proofs.Laws.Keys.{smaller_lt, smaller_gt, smaller_eq, smaller_cases}
+use Rattle.meaning.proofs.Laws.Keys.{smaller_lt, smaller_eq, smaller_cases}
 
 -- what comes first by operator and arity
 pub record Earlier (n m : Node) : Type 0 where

@@ -1,7 +1,7 @@
 -- A class's nodes, and what lookup finds: they agree in a well_formed graph. Assumes nothing.
-use Rattle.std.specs.Prelude.{ℕ, suc, ◌<◌, ◌≡◌, refl, Bool, true, false, cond, eqb}
-use Rattle.std.proofs.Common.{sym, ap, ◌∙◌, arith, eqb-true, eq-eqb, ne_eqb}
-use mathlib.Core.List.{List, [], ◌∷◌, ◌++◌, flat_map, map}
+use Rattle.std.specs.Prelude.{ℕ, ◌≡◌, refl, Bool, true, false, cond, eqb}
+use Rattle.std.proofs.Common.{sym, ap, arith, eqb-true, eq-eqb, ne_eqb}
+use mathlib.Core.List.{List, [], ◌∷◌, ◌++◌, flat_map}
 use mathlib.Core.List.Memᴰ.{append_left as mem-left}
 use mathlib.Core.List.Memᴰ.{append_right as mem-right}
 use mathlib.Core.List.Memᴰ.{cast as mem-cast}
@@ -9,7 +9,7 @@ use mathlib.Core.List.Memᴰ.{head}
 use mathlib.Core.List.Memᴰ.{not-nil}
 use mathlib.Core.List.Memᴰ.{tail}
 use mathlib.Core.List.{Memᴰ as Mem}
-use Rattle.meaning.specs.Tests.{Opt, none, some}
+use Rattle.meaning.specs.Tests.{none, some}
 use Rattle.meaning.specs.Lists.{All, NoDup, empty, more, all_of, nodup_left, nodup_right, nodup_apart}
 use Rattle.meaning.specs.Graph.{Graph, Node, node, is_key, has_key, lookup, nodes_of, ids, all_nodes, next, place_in, WellFormed}
 use Rattle.meaning.specs.Laws.Ascending.{lt_lt, ascends_once}

@@ -1,10 +1,10 @@
 -- The computed refusal number is document 01's, and there is one for all words. Assumes nothing.
-use Rattle.std.specs.Prelude.{ℕ, ◌<◌, ◌≤◌, ◌≡◌, refl, List, Bool, true, false, cond, ◌↔◌, length, ltb}
-use Rattle.std.proofs.Common.{sym, subst, ◌∙◌, ltb-true, ltb-false, lt-ltb, le-ltb, arith}
+use Rattle.std.specs.Prelude.{ℕ, ◌≤◌, ◌≡◌, refl, List, Bool, true, false, cond, ◌↔◌, length, ltb}
+use Rattle.std.proofs.Common.{sym, subst, ◌∙◌, ltb-true, ltb-false, lt-ltb, le-ltb}
 use Rattle.meaning.specs.declared.Layout.{Layout}
 use Rattle.meaning.specs.Tests.{apart, not_true_false}
 use Rattle.meaning.specs.Words.{layout_of}
-use Rattle.meaning.specs.Good.{Good, Limits, Shape, FindRule, ClassRule, NodeRule, IndexRule, Numbered, good, short, over, misplaced, find_broken, class_broken, node_broken, index_broken}
+use Rattle.meaning.specs.Good.{Good, Limits, Shape, Numbered, good, short, over, misplaced, find_broken, class_broken, node_broken, index_broken}
 use Rattle.meaning.specs.Refusal.{good_limits, good_shape, good_find, good_classes, good_nodes, good_index, areas_refusal, refusal_of}
 use Rattle.meaning.proofs.Laws.Rules.{limits, is_limits, shape, is_shape, find, is_find, classes, is_classes, nodes, is_nodes, index, is_index}
 

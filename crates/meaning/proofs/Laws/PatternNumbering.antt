@@ -1,16 +1,16 @@
 -- The computed refusal numbers of patterns and multipatterns are document 01's, one for all words. Assumes nothing.
-use Rattle.std.specs.Prelude.{ℕ, zero, suc, ◌<◌, ◌≤◌, ◌≡◌, List, ◌⊎◌, ◌↔◌, Bool, cond, eqb, ltb}
+use Rattle.std.specs.Prelude.{ℕ, zero, suc, ◌<◌, ◌≤◌, ◌≡◌, List, ◌↔◌, Bool, cond, eqb, ltb}
 use Rattle.std.proofs.Math.Path.{refl}
-use Rattle.std.proofs.Common.{sym, ap, subst, ◌∙◌, inl, inr, ⊎_elim, arith, eq-or-lt_of_le, le_of_suc-le-suc}
+use Rattle.std.proofs.Common.{sym, ap, subst, ◌∙◌, ⊎_elim, arith, eq-or-lt_of_le, le_of_suc-le-suc}
 use Rattle.std.proofs.Math.Bool.{true, false}
 use Rattle.std.proofs.Math.ListN.{length}
 use Rattle.std.proofs.Math.Dec.{leb}
-use borrow.Author.Tests.{ltb-true, ltb-false, lt-ltb, le-ltb, leb-true, leb-false, le-leb, lt-leb, eqb-true, eqb-false, eq-eqb, ne_eqb}
+use borrow.Author.Tests.{ltb-true, ltb-false, lt-ltb, le-ltb, leb-true, leb-false, le-leb, lt-leb, eqb-true, eqb-false, ne_eqb}
 use Rattle.meaning.specs.Tests.{apart, not_true_false}
 use Rattle.meaning.specs.Words.{word}
 use Rattle.meaning.specs.Pattern.{occurrences}
 use Rattle.meaning.specs.PatternWords.{pattern_of, part_at}
-use Rattle.meaning.specs.GoodPattern.{PatternLimits, PatternShape, PatternNodes, GoodPattern, PatternNumbered, MultiLimits, MultiShape, occurrences_to, IsLone, GoodRight, GoodMulti, RightNumbered, MultiNumbered}
+use Rattle.meaning.specs.GoodPattern.{PatternLimits, PatternShape, PatternNodes, GoodPattern, PatternNumbered, MultiLimits, MultiShape, occurrences_to, GoodRight, GoodMulti, RightNumbered, MultiNumbered}
 use Rattle.meaning.specs.PatternRefusal.{first_below, good_pattern_limits, good_pattern_shape, good_pattern_nodes, pattern_refusal, good_multi_limits, good_multi_shape, lone_variable, parts_refusal, right_refusal, multi_refusal}
 use Rattle.meaning.proofs.Laws.PatternRules.{pattern_limits, is_pattern_limits, pattern_shape, is_pattern_shape, pattern_nodes, is_pattern_nodes, multi_limits, is_multi_limits, multi_shape, is_multi_shape, lone, is_lone}
 

@@ -1,19 +1,18 @@
 -- Each computed test of a pattern or a multipattern is true exactly if its rule holds. Assumes nothing.
-use Prim.Native.Nat.{ℕ, zero, suc, ◌+◌, ◌*◌, ◌-◌, ◌<◌, ◌≤◌}
+use Prim.Native.Nat.{ℕ, zero, suc, ◌+◌, ◌-◌, ◌<◌}
 use Rattle.std.proofs.Math.Path.{◌≡◌, refl}
-use Rattle.std.proofs.Common.{sym, ap, subst, ◌∙◌, inl, inr, ⊎_elim, zero-add}
+use Rattle.std.proofs.Common.{sym, ◌∙◌}
 use mathlib.Core.List.{List, [], ◌∷◌, map, nil≢cons, cons≢nil, head-eq_of_cons-eq, tail-eq_of_cons-eq}
-use Rattle.std.specs.Prelude.{◌⊎◌, Bool, length, leb}
+use Rattle.std.specs.Prelude.{Bool}
 use Rattle.std.proofs.Math.Bool.{true, false, cond, not}
 use Rattle.std.proofs.Math.Dec.{eqb, ltb}
-use borrow.Author.Tests.{lt-ltb, ltb-true, le-leb, leb-true, eq-eqb, eqb-true, eqb-false, not-true, not-false}
+use borrow.Author.Tests.{lt-ltb, ltb-true, le-leb, leb-true, eq-eqb, eqb-true, not-true}
 use native.Mathlib.Omega.{arith}
 use Rattle.meaning.specs.Tests.{and, all_below, and_left, and_right, and_both, all_at, all_of, same_true, same_is, apart, not_true_false}
-use Rattle.meaning.specs.Ranges.{from, end_from, end_before}
+use Rattle.meaning.specs.Ranges.{from}
 use Rattle.meaning.specs.Words.{word}
-use Rattle.meaning.specs.Good.{JoinedFrom, Joined}
-use Rattle.meaning.specs.Pattern.{PNode, var, op, Pattern}
-use Rattle.meaning.specs.PatternWords.{kind_at, number_at, degree_at, start_at, child_of, children_of, pnode_at, pattern_of, offset_at, length_at}
+use Rattle.meaning.specs.Pattern.{var, op}
+use Rattle.meaning.specs.PatternWords.{kind_at, number_at, degree_at, start_at, child_of, children_of, pnode_at, pattern_of}
 use Rattle.meaning.specs.GoodPattern.{PatternLimits, PatternShape, Same, PatternNodes, MultiLimits, MultiShape, IsLone}
 use Rattle.meaning.specs.PatternRefusal.{some_below, good_pattern_limits, good_pattern_shape, good_below, good_part_at, good_parts, is_used, good_use, is_same, is_new, good_once, good_pattern_nodes, good_multi_limits, good_entry_at, good_multi_shape, lone_variable}
 use Rattle.meaning.specs.Laws.Joins.{joined_within}

@@ -1,5 +1,5 @@
 -- Each computed test is true exactly if its rule holds. Assumes nothing.
-use Rattle.std.specs.Prelude.{ℕ, zero, suc, ◌+◌, ◌*◌, ◌-◌, ◌<◌, ◌≤◌, ◌≡◌, Bool, false, length, get_or, eqb, ltb, leb}
+use Rattle.std.specs.Prelude.{ℕ, zero, suc, ◌+◌, ◌-◌, ◌<◌, ◌≡◌, length, get_or, eqb}
 use Rattle.std.proofs.Math.Path.{refl, sym, ap}
 use Rattle.std.proofs.Common.{subst, ◌∙◌}
 use mathlib.Core.List.{List, [], ◌∷◌, map}
@@ -9,14 +9,14 @@ use borrow.Author.Tests.{lt-ltb, ltb-true, le-leb, leb-true, eq-eqb, eqb-true}
 use native.Mathlib.Omega.{arith}
 use Rattle.std.proofs.Math.Nat.{zero-add}
 use Rattle.meaning.specs.declared.Layout.{Layout}
-use Rattle.meaning.specs.Tests.{and, all_below, and_left, and_right, and_both, all_at, all_of, same_true, same_refl}
+use Rattle.meaning.specs.Tests.{and_left, and_right, and_both, all_at, all_of, same_true, same_refl}
 use Rattle.meaning.specs.Lists.{Ascends}
 use Rattle.meaning.specs.Graph.{Node, less}
-use Rattle.meaning.specs.Ranges.{from, keep, end_before}
-use Rattle.meaning.specs.Words.{word, layout_of, find_at, id_at, first_at, count_at, arity_at, kid_at, owner_at, child_at, index_at, node_at}
+use Rattle.meaning.specs.Ranges.{from, end_before}
+use Rattle.meaning.specs.Words.{id_at, first_at, count_at, arity_at, kid_at, child_at, index_at, node_at}
 use Rattle.meaning.specs.Good.{Limits, Shape, Joined, Canonical, FindRule, ClassRule, NodeRule, IndexRule}
 use Rattle.meaning.specs.Refusal.{good_limits, good_shape, rises_at, is_canonical, good_find_at, good_find, canonicals, ids_to, good_ids, good_range_at, good_ranges, good_classes, good_node_at, good_member_at, good_members_at, good_members, good_child_at, good_children, good_nodes, good_index_at, good_index}
-use Rattle.meaning.specs.Laws.Runs.{from_mem, mem_from, map_length, map_at, mem_run, run_mem, keep_mem, mem_keep}
+use Rattle.meaning.specs.Laws.Runs.{from_mem, map_length, map_at, mem_run, run_mem, keep_mem, mem_keep}
 use Rattle.meaning.specs.Laws.Ascending.{lt_lt, ascends_run, ascends_at, keep_ascends, rising_same}
 use Rattle.meaning.specs.Laws.Joins.{joined_within, joined_find}
 

@@ -1,21 +1,20 @@
 -- Sizes and variables of a good pattern's nodes, from their children's; no size is over the limit. Assumes nothing.
 use Prim.Native.Nat.{ℕ, zero, suc, ◌+◌, ◌*◌, ◌-◌, ◌<◌, ◌≤◌}
-use Rattle.std.specs.Prelude.{◌≡◌, List, [], ◌∷◌, Bool, true, false, eqb, ltb}
+use Rattle.std.specs.Prelude.{◌≡◌, List, [], ◌∷◌, Bool, true, false, ltb}
 use Rattle.std.proofs.Math.Path.{refl}
-use Rattle.std.proofs.Common.{sym, ap, ◌∙◌, ⊎_elim, eqb-true, ltb-true, ltb-false}
+use Rattle.std.proofs.Common.{ap, ◌∙◌, ⊎_elim, ltb-true, ltb-false}
 use mathlib.Core.List.Memᴰ.{cases_cons}
 use mathlib.Core.List.Memᴰ.{head}
 use mathlib.Core.List.Memᴰ.{not-nil}
 use mathlib.Core.List.Memᴰ.{tail}
 use mathlib.Core.List.{Memᴰ as Mem}
 use Rattle.std.proofs.Math.ListN.{length}
-use Rattle.std.proofs.lemmas.Bool.{eqb-false}
 use native.Mathlib.Omega.{arith}
 use Rattle.meaning.specs.Words.{word}
-use Rattle.meaning.specs.Pattern.{PNode, var, op, Pattern, node_of, kids_of, Ordered, root, sum, unions, free, size_of, size, occ, occurrences}
+use Rattle.meaning.specs.Pattern.{PNode, var, op, Pattern, node_of, kids_of, Ordered, sum, unions, free, size_of, size, occ, occurrences}
 use Rattle.meaning.specs.PatternWords.{kind_at, number_at, children_of, pnode_at, pattern_of}
 use Rattle.meaning.specs.GoodPattern.{PatternNodes, GoodPattern}
-use Rattle.meaning.specs.Laws.Built.{Local, value_at, value_out}
+use Rattle.meaning.specs.Laws.Built.{Local, value_at}
 use Rattle.meaning.specs.Laws.Instances.{sum_same, free_var, free_op, occ_op}
 use Rattle.meaning.proofs.Laws.Patterns.{pattern_length, pattern_at, pnode_var, pnode_op, kids_of_lem, child_below, ordered, occ_at, parent}
 use Rattle.meaning.specs.Search.Order.{Stands, stands}

@@ -1,29 +1,28 @@
 -- What follows from a good table: the facts that the floors above may use. Assumes nothing.
-use Rattle.std.specs.Prelude.{ℕ, zero, suc, ◌+◌, ◌*◌, ◌-◌, ◌<◌, ◌≤◌, ◌≡◌, refl, ◌⊎◌, ◌↔◌, Bool, true, false, cond, eqb, ltb, get_or, take, drop}
-use Rattle.std.proofs.Common.{sym, subst, ◌∙◌, inl, inr, ⊎_elim, length-take, length-drop, get_or-take, get_or-drop, mul-le-mul_right, eqb-true, eq-eqb, ne_eqb, ltb-true, ltb-false}
+use Rattle.std.specs.Prelude.{ℕ, zero, suc, ◌+◌, ◌*◌, ◌-◌, ◌<◌, ◌≤◌, ◌≡◌, refl, ◌↔◌, Bool, true, false, cond, ltb, get_or, take, drop}
+use Rattle.std.proofs.Common.{sym, ◌∙◌, length-take, length-drop, get_or-take, get_or-drop, mul-le-mul_right, eq-eqb, ne_eqb, ltb-true, ltb-false}
 use Rattle.std.proofs.Math.Path.{ap}
 use mathlib.Core.List.{List, [], ◌∷◌, ◌++◌, map, flat_map}
 use mathlib.Core.List.Memᴰ.{cast as mem-cast}
 use mathlib.Core.List.Memᴰ.{head}
-use mathlib.Core.List.Memᴰ.{not-nil}
 use mathlib.Core.List.Memᴰ.{tail}
 use mathlib.Core.List.{Memᴰ as Mem}
 use Rattle.std.proofs.Math.ListN.{length}
 use native.Mathlib.Omega.{arith}
 use Rattle.std.proofs.Math.Nat.{zero-add}
 use Rattle.meaning.specs.declared.Layout.{Layout}
-use Rattle.meaning.specs.Tests.{Opt, none, some}
-use Rattle.meaning.specs.Lists.{All, nil, cons, all_of, NoDup, empty, more, Ascends, map_map, from_map}
+use Rattle.meaning.specs.Tests.{none, some}
+use Rattle.meaning.specs.Lists.{All, all_of, NoDup, Ascends, map_map}
 use Rattle.meaning.specs.Ranges.{from}
 use Rattle.meaning.specs.Graph.{Graph, Node, Class, node, less, is_key, lookup, nodes_of, ids, all_nodes, next, place_in, WellFormed}
-use Rattle.meaning.specs.Words.{word, layout_of, find_at, id_at, first_at, count_at, op_at, arity_at, kid_at, owner_at, child_at, index_at, node_at, class_at, graph_at}
-use Rattle.meaning.specs.Good.{Limits, Shape, Joined, Canonical, FindRule, ClassRule, NodeRule, IndexRule, Good, Placed, Sound}
-use Rattle.meaning.specs.Laws.Runs.{from_length, from_mem, mem_from, map_length, mem_run, run_mem, run_once}
+use Rattle.meaning.specs.Words.{layout_of, id_at, first_at, count_at, arity_at, kid_at, owner_at, index_at, node_at, class_at, graph_at}
+use Rattle.meaning.specs.Good.{Limits, Shape, Canonical, ClassRule, Good, Placed, Sound}
+use Rattle.meaning.specs.Laws.Runs.{map_length, mem_run, run_mem, run_once}
 use Rattle.meaning.specs.Laws.Ascending.{lt_lt, ascends_run, rises_past}
 use Rattle.meaning.proofs.Laws.Keys.{less_irrefl, less_trans, key_is, is_key_lem}
 use Rattle.meaning.specs.Laws.Joins.{joined_within, joined_find, joined_run}
 use Rattle.meaning.specs.Laws.Pigeons.{all_there}
-use Rattle.meaning.proofs.Laws.Lookup.{class_found, lookup_none, place_none}
+use Rattle.meaning.proofs.Laws.Lookup.{class_found, place_none}
 
 -- with right offsets the areas stand where the counts say
 pub placed : (t : List ℕ) → Limits t → Shape t → Placed t (layout_of t)

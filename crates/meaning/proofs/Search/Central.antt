@@ -6,8 +6,8 @@ use Rattle.std.proofs.Common.{sym, ◌∙◌, subst, add-one, eqb-true, eq-eqb}
 use mathlib.Core.List.{List, [], ◌∷◌, ◌++◌}
 use Rattle.meaning.specs.Tests.{is_class, class_true, class_is}
 use Rattle.meaning.specs.Lists.{All, nil, cons, took_all, put_all}
-use Rattle.meaning.specs.Graph.{Graph, node, nodes_of, ids, fits}
-use Rattle.meaning.specs.Pattern.{var, Pattern}
+use Rattle.meaning.specs.Graph.{Graph, nodes_of, ids, fits}
+use Rattle.meaning.specs.Pattern.{Pattern}
 use Rattle.meaning.specs.Instance.{inst}
 use Rattle.meaning.specs.Program.{Instr, Held, vars, gives, at, rows, reg}
 use Rattle.meaning.specs.Compiler.{Item, item, number, Root}

@@ -1,5 +1,5 @@
 -- Which item is taken next, and what it gives: document 01's words, and the computed choice is that. Assumes nothing.
-use Rattle.std.specs.Prelude.{ℕ, zero, suc, ◌+◌, ◌<◌, ◌≤◌, ◌≡◌, List, [], ◌∷◌, ◌++◌, ◌⊎◌, ◌↔◌, Bool, false, cond, not, length, get_or, eqb, ltb}
+use Rattle.std.specs.Prelude.{ℕ, zero, suc, ◌<◌, ◌≡◌, List, [], ◌∷◌, ◌⊎◌, Bool, false, cond, not, length, get_or, eqb, ltb}
 use Rattle.std.proofs.Math.Path.{refl, sym, ap}
 use Rattle.std.proofs.Common.{◌∙◌, inl, inr, eq-or-lt_of_le, le_of_suc-le-suc}
 use mathlib.Core.List.Memᴰ.{head}
@@ -11,8 +11,8 @@ use borrow.Author.Tests.{eqb-true, eqb-false, eq-eqb, ne_eqb, ltb-true, lt-ltb}
 use native.Mathlib.Omega.{arith}
 use Rattle.meaning.specs.Tests.{and, apart, and_fails_left, and_fails_right}
 use Rattle.meaning.specs.Graph.{smaller}
-use Rattle.meaning.specs.Pattern.{PNode, op, Pattern, size}
-use Rattle.meaning.specs.Program.{Instr, bind, lookat, Held}
+use Rattle.meaning.specs.Pattern.{op, Pattern, size}
+use Rattle.meaning.specs.Program.{bind, lookat, Held}
 use Rattle.meaning.specs.Compiler.{Item, Root, unbound, is_ground, late, ahead, best, choose, pick_at, is_leaf, taken}
 use Rattle.meaning.proofs.Laws.Keys.{smaller_lt, smaller_eq, smaller_cases, smaller_trans}
 

@@ -16,7 +16,7 @@ use Rattle.meaning.specs.Instance.{inst}
 use Rattle.meaning.specs.Program.{Held, held, vars, row, asg, gives, at, reg}
 use Rattle.meaning.specs.Compiler.{Item, item, number, Root}
 use Rattle.meaning.specs.Search.Listing.{Lists}
-use Rattle.meaning.specs.Search.Order.{Stands, new, again, same, apart}
+use Rattle.meaning.specs.Search.Order.{Stands}
 use Rattle.meaning.proofs.Laws.Lookup.{Reads}
 use Rattle.meaning.specs.Search.Solve.{Means, Joined, Solves, Fit, File, Known}
 use Rattle.meaning.specs.Search.Rowlaws.{asg_row, row_of, some_all, all_some_lem, somes, somes_length, numbered, to_numbered}

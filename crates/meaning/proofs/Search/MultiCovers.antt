@@ -1,5 +1,5 @@
 -- The variables of a multipattern's rows are its binders and its patterns' variables. Assumes nothing.
-use Rattle.std.specs.Prelude.{ℕ, zero, suc, ◌+◌, ◌-◌, ◌<◌, ◌≤◌, ◌≡◌, List, [], ◌∷◌, map, ◌⊎◌, ◌↔◌}
+use Rattle.std.specs.Prelude.{ℕ, zero, suc, ◌+◌, ◌-◌, ◌<◌, ◌≡◌, List, [], ◌∷◌, map, ◌⊎◌, ◌↔◌}
 use Rattle.std.proofs.Math.Path.{refl, subst}
 use Rattle.std.proofs.Common.{sym, ap, ◌∙◌, arith}
 use mathlib.Core.List.Memᴰ.{cases_cons}
@@ -13,7 +13,7 @@ use Rattle.std.proofs.Math.ListN.{length}
 use Rattle.meaning.specs.Lists.{All, nil, cons}
 use Rattle.meaning.specs.Pattern.{PNode, var, op, Pattern, node_of, Ordered, root, free, union, unions, Bound}
 use Rattle.meaning.specs.Program.{vars, reg}
-use Rattle.meaning.specs.Compiler.{Item, item, Root, ahead}
+use Rattle.meaning.specs.Compiler.{item, Root, ahead}
 use Rattle.meaning.specs.Multi.{shift_node, flat, tops, compile_many}
 use Rattle.meaning.specs.Search.Order.{Stands, stands, kid_of}
 use Rattle.meaning.specs.Laws.Instances.{free_var, free_op, unions_same}

@@ -1,15 +1,14 @@
 -- A map that keeps every node keeps the rows of a multipattern. Assumes nothing.
-use Rattle.std.specs.Prelude.{ℕ, ◌≡◌, refl, List, [], ◌∷◌, map}
+use Rattle.std.specs.Prelude.{ℕ, ◌≡◌, List, ◌∷◌, map}
 use Rattle.std.proofs.Common.{sym, ap, ◌∙◌}
 use mathlib.Core.List.Memᴰ.{cast as mem-cast}
 use mathlib.Core.List.{Memᴰ as Mem}
 use Rattle.meaning.specs.Lists.{All, nil, cons, map_map}
 use Rattle.meaning.specs.Graph.{Graph, ids, WellFormed}
 use Rattle.meaning.specs.Pattern.{Ordered, root, Bound}
-use Rattle.meaning.specs.Instance.{Met, Meets}
+use Rattle.meaning.specs.Instance.{Met}
 use Rattle.meaning.specs.Program.{vars, asg}
 use Rattle.meaning.specs.Multi.{compile_many, many_matches}
-use Rattle.meaning.specs.Search.Listing.{Lists}
 use Rattle.meaning.specs.Search.Rowlaws.{row_asg}
 use Rattle.meaning.proofs.Search.Growth.{Grows, grows}
 use Rattle.meaning.proofs.Search.MultiTheorem.{many_right, many_vars_once}

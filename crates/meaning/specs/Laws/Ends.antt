@@ -1,6 +1,6 @@
 -- Where the range before one ends, as the code reads it. Assumes nothing.
 use Rattle.std.specs.Prelude.{ℕ, zero, suc, ◌+◌, ◌-◌, ◌<◌, ◌≡◌, refl}
-use Rattle.std.proofs.Common.{sym, arith}
+use Rattle.std.proofs.Common.{arith}
 use Rattle.meaning.specs.Ranges.{end_from, end_before}
 
 pub none_before : (first count : ℕ → ℕ) (i : ℕ) → i ≡ 0 → (0 ≡ end_before first count i) × (0 < 8589934592)

@@ -1,9 +1,9 @@
 -- Ranges that join end to end: each lies within the total, each place lies in one, and their runs are one run. Assumes nothing.
-use Rattle.std.specs.Prelude.{ℕ, zero, suc, ◌+◌, ◌-◌, ◌<◌, ◌≤◌, ◌≡◌, refl, ◌⊎◌, Bool, true, false, ltb}
-use Rattle.std.proofs.Common.{sym, ap, ◌∙◌, inl, inr, ⊎_elim, ltb-true, ltb-false, add-one}
+use Rattle.std.specs.Prelude.{ℕ, zero, suc, ◌+◌, ◌-◌, ◌<◌, ◌≤◌, ◌≡◌, refl, Bool, true, false, ltb}
+use Rattle.std.proofs.Common.{sym, ap, ◌∙◌, ltb-true, ltb-false, add-one}
 use mathlib.Core.List.{List, [], ◌∷◌, ◌++◌, map, flat_map, append-nil, append_assoc}
 use native.Mathlib.Omega.{arith}
-use Rattle.meaning.specs.Ranges.{from, end_from, end_before}
+use Rattle.meaning.specs.Ranges.{from, end_from}
 use Rattle.meaning.specs.Good.{JoinedFrom, Joined}
 use Rattle.meaning.specs.Laws.Runs.{from_more, map_add}
 

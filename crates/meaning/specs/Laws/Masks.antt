@@ -1,15 +1,15 @@
 -- Sets as masks: union, difference, one member, and the count, over the width. Assumes nothing.
-use Prim.Native.Nat.{ℕ, zero, suc, ◌+◌, ◌-◌, ◌*◌, ◌/◌, ◌%◌, ◌^◌, ◌<◌, ◌≤◌, min, max}
-use Rattle.std.specs.Prelude.{◌≡◌, Bool, true, false, not, ◌⊎◌, List, [], ◌∷◌, map, length}
+use Prim.Native.Nat.{ℕ, zero, suc, ◌+◌, ◌-◌, ◌/◌, ◌%◌, ◌^◌, ◌<◌, min, max}
+use Rattle.std.specs.Prelude.{◌≡◌, Bool, true, false, not, ◌⊎◌, ◌∷◌, length}
 use Rattle.std.proofs.Math.Path.{refl, ap, fun_ext}
-use Rattle.std.proofs.Common.{sym, ◌∙◌, inl, inr, ⊎_elim, shr-shr, shr_lt, pow_pos, eqb-true, eq-eqb, ne_eqb, add-one, add-zero, arith}
+use Rattle.std.proofs.Common.{sym, ◌∙◌, inl, inr, shr-shr, eqb-true, eq-eqb, add-zero, arith}
 use Rattle.std.proofs.Math.Bool.{cond}
 use Rattle.std.specs.Int.Bits.{bit_and, bit_or, and_step, or_step}
 use Rattle.std.proofs.lemmas.Nat.{and_shr, or_shr}
 use Rattle.std.specs.Int.Count.{ones, ones_in, ones_step}
 use Rattle.std.proofs.Math.Dec.{eqb}
 use Rattle.std.proofs.lemmas.Bool.{eqb-false}
-use Rattle.meaning.specs.Tests.{and, not_true_false, apart}
+use Rattle.meaning.specs.Tests.{and}
 use Rattle.meaning.specs.Ranges.{from, keep}
 use Rattle.meaning.specs.Masks.{bit_in, count}
 

@@ -1,5 +1,5 @@
 -- n different numbers below n are all the numbers below n. Assumes nothing.
-use Rattle.std.specs.Prelude.{ℕ, zero, suc, ◌+◌, ◌<◌, ◌≤◌, ◌≡◌, refl, List, [], ◌∷◌, ◌⊎◌, Bool, true, false, eqb, length}
+use Rattle.std.specs.Prelude.{ℕ, zero, suc, ◌<◌, ◌≤◌, ◌≡◌, refl, List, [], ◌∷◌, ◌⊎◌, Bool, true, false, eqb, length}
 use Rattle.std.proofs.Common.{sym, ap, subst, inl, inr, ⊎_elim, eqb-true, arith}
 use mathlib.Core.List.Memᴰ.{cases_cons}
 use mathlib.Core.List.Memᴰ.{cast as mem-cast}
@@ -8,7 +8,7 @@ use mathlib.Core.List.Memᴰ.{not-nil}
 use mathlib.Core.List.Memᴰ.{tail}
 use mathlib.Core.List.{Memᴰ as Mem}
 use Rattle.std.proofs.lemmas.Bool.{eqb-false}
-use Rattle.meaning.specs.Lists.{All, nil, cons, NoDup, empty, more, Took, here, there, took_all, took_in, took_rest}
+use Rattle.meaning.specs.Lists.{All, nil, cons, NoDup, more, Took, here, there, took_all, took_in, took_rest}
 
 -- a number stands in a list, or not
 pub stands : (x : ℕ) (l : List ℕ) → Mem x l ⊎ (Mem x l → ⊥)

@@ -1,6 +1,6 @@
 -- Sums over lists and runs. Assumes nothing.
-use Rattle.std.specs.Prelude.{ℕ, ◌+◌, ◌<◌, ◌≡◌, refl, List, [], ◌∷◌, ◌++◌, length, get_or, take}
-use Rattle.std.proofs.Common.{ap, ◌∙◌, take-suc, add-one, add-zero, zero-add, arith}
+use Rattle.std.specs.Prelude.{ℕ, ◌+◌, ◌<◌, ◌≡◌, List, [], ◌∷◌, ◌++◌, length, get_or, take}
+use Rattle.std.proofs.Common.{take-suc, add-one, add-zero, zero-add, arith}
 use Rattle.meaning.specs.Ranges.{from}
 use Rattle.meaning.specs.Pattern.{sum}
 use Rattle.meaning.specs.Laws.Runs.{from_more}

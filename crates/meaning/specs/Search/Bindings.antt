@@ -1,5 +1,5 @@
 -- What is bound, and when a node is ground. Assumes nothing.
-use Rattle.std.specs.Prelude.{ℕ, ◌≡◌, refl, List, [], ◌∷◌, ◌⊎◌, Bool, true, false, cond, not, eqb}
+use Rattle.std.specs.Prelude.{ℕ, ◌≡◌, refl, List, [], ◌∷◌, ◌⊎◌, Bool, true, false, cond, eqb}
 use Rattle.std.proofs.Common.{sym, ap, ◌∙◌, inl, inr, eqb-true, arith}
 use mathlib.Core.List.Memᴰ.{cases_cons}
 use mathlib.Core.List.Memᴰ.{cast as mem-cast}
@@ -9,9 +9,9 @@ use mathlib.Core.List.Memᴰ.{tail}
 use mathlib.Core.List.{Memᴰ as Mem}
 use Rattle.std.proofs.lemmas.Bool.{eqb-false}
 use Rattle.meaning.specs.declared.Reg.{Reg}
-use Rattle.meaning.specs.Tests.{Opt, none, some, and}
+use Rattle.meaning.specs.Tests.{Opt, none, some}
 use Rattle.meaning.specs.Lists.{mem_map}
-use Rattle.meaning.specs.Pattern.{var, Pattern, free}
+use Rattle.meaning.specs.Pattern.{Pattern, free}
 use Rattle.meaning.specs.Program.{Held, held, vars}
 use Rattle.meaning.specs.Compiler.{reg_of, more_if_none, unbound_in, unbound, is_ground}
 

@@ -1,18 +1,16 @@
 -- Every good pattern compiles: how many instructions, variables and registers there can be. Assumes nothing.
 use Prim.Native.Nat.{ℕ, zero, suc, ◌+◌, ◌-◌, ◌<◌, ◌≤◌}
 use Rattle.std.proofs.Math.Path.{◌≡◌, refl}
-use Rattle.std.proofs.Common.{sym, ap, ◌∙◌}
 use mathlib.Core.List.{List, [], ◌∷◌, ◌++◌}
-use mathlib.Core.List.{Memᴰ as Mem}
 use Rattle.std.specs.Prelude.{Bool, true, false, cond, not}
 use Rattle.std.proofs.Math.ListN.{length, length-append}
 use native.Mathlib.Omega.{arith}
 use Rattle.meaning.specs.declared.Reg.{Reg}
 use Rattle.meaning.specs.Tests.{Opt, none, some, and}
-use Rattle.meaning.specs.Lists.{All, nil, cons, Took, took_all}
-use Rattle.meaning.specs.Pattern.{PNode, var, op, Pattern, node_of, Ordered, root, occ, sum}
-use Rattle.meaning.specs.Program.{Instr, bind, lookat, reg, Held, held}
-use Rattle.meaning.specs.Compiler.{Item, item, Root, State, state, Step, step, reg_of, is_ground, choose, number, is_leaf, met_var, met, taken, bind_once, entered, enter, after, joined, rooted, step_of, go, Prog}
+use Rattle.meaning.specs.Lists.{All, cons, Took, took_all}
+use Rattle.meaning.specs.Pattern.{PNode, var, op, Pattern, node_of, Ordered, occ, sum}
+use Rattle.meaning.specs.Program.{bind, lookat, reg, Held, held}
+use Rattle.meaning.specs.Compiler.{Item, item, Root, State, state, Step, step, reg_of, is_ground, choose, number, is_leaf, met_var, met, taken, bind_once, entered, enter, after, joined, rooted, step_of, go}
 use Rattle.meaning.specs.Laws.Instances.{occ_var, occ_op}
 use Rattle.meaning.specs.Search.Order.{Stands, stands}
 use Rattle.meaning.specs.Search.Measure.{load, load_took, load_append, occ_pos}

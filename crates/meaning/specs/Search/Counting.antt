@@ -1,7 +1,7 @@
 -- Free variables not yet bound, counted as members of a set. Assumes nothing.
-use Prim.Native.Nat.{ℕ, zero, suc, ◌+◌, ◌<◌, ◌≤◌}
-use Rattle.std.specs.Prelude.{◌≡◌, refl, List, [], ◌∷◌, map, ◌⊎◌, Bool, true, false, cond, length}
-use Rattle.std.proofs.Common.{sym, subst, ◌∙◌, inl, inr, ⊎_elim, arith, zero-add}
+use Prim.Native.Nat.{ℕ, suc, ◌+◌, ◌<◌}
+use Rattle.std.specs.Prelude.{◌≡◌, refl, List, [], ◌∷◌, map, Bool, true, false, cond, length}
+use Rattle.std.proofs.Common.{sym, subst, ◌∙◌, ⊎_elim, arith, zero-add}
 use Rattle.std.proofs.Math.Path.{ap}
 use mathlib.Core.List.Memᴰ.{cases_cons}
 use mathlib.Core.List.Memᴰ.{cast as mem-cast}
@@ -12,7 +12,7 @@ use mathlib.Core.List.{Memᴰ as Mem}
 use Rattle.std.proofs.lemmas.List.{length-map}
 use Rattle.meaning.specs.declared.Reg.{Reg}
 use Rattle.meaning.specs.Tests.{Opt, none, some, apart}
-use Rattle.meaning.specs.Lists.{NoDup, empty, more, Took, here, there, took_rest, took_mem, mem_map, from_map}
+use Rattle.meaning.specs.Lists.{NoDup, empty, more, took_rest, took_mem, mem_map, from_map}
 use Rattle.meaning.specs.Ranges.{from, keep}
 use Rattle.meaning.specs.Masks.{count}
 use Rattle.meaning.specs.Program.{Held}

@@ -4,7 +4,7 @@ use Rattle.std.proofs.Common.{arith}
 use Rattle.meaning.specs.declared.Reg.{Reg}
 use Rattle.meaning.specs.Lists.{Took, here, there}
 use Rattle.meaning.specs.Pattern.{PNode, var, op, Pattern, node_of, Ordered, occ, sum}
-use Rattle.meaning.specs.Compiler.{Item, item, Root, number, met, root_load}
+use Rattle.meaning.specs.Compiler.{Item, item, Root, number, root_load}
 use Rattle.meaning.specs.Laws.Instances.{occ_var, occ_op}
 use Rattle.meaning.specs.Search.Order.{stands}
 

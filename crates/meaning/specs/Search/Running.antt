@@ -1,10 +1,10 @@
 -- A state run to its end, one step at a time. Assumes nothing.
-use Rattle.std.specs.Prelude.{ℕ, zero, suc, ◌+◌, ◌-◌, ◌<◌, ◌≤◌, ◌≡◌, refl, List, [], ◌∷◌, ◌++◌, Bool}
+use Rattle.std.specs.Prelude.{ℕ, suc, ◌≤◌, ◌≡◌, List, [], ◌++◌, Bool}
 use Rattle.std.proofs.Common.{sym, ap, ◌∙◌, arith}
 use Rattle.meaning.specs.Pattern.{Pattern, Ordered}
 use Rattle.meaning.specs.Program.{Held}
-use Rattle.meaning.specs.Compiler.{Item, Root, State, state, Step, step_of, go, Prog, prog, root_load}
-use Rattle.meaning.specs.Search.Measure.{measure, load}
+use Rattle.meaning.specs.Compiler.{Item, Root, State, state, Step, step_of, go, Prog, prog}
+use Rattle.meaning.specs.Search.Measure.{measure}
 use Rattle.meaning.specs.Search.Steps.{Sane, Stepped, stepped}
 use Rattle.meaning.specs.Search.Compiled.{go_enough, go_idle}
 

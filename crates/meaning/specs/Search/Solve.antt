@@ -3,7 +3,7 @@ use Rattle.std.specs.Prelude.{ℕ, ◌<◌, ◌≡◌, List, map, length}
 use mathlib.Core.List.{Memᴰ as Mem}
 use Rattle.meaning.specs.Tests.{some}
 use Rattle.meaning.specs.Lists.{NoDup, All}
-use Rattle.meaning.specs.Graph.{Graph, Node, node, lookup, nodes_of, ids}
+use Rattle.meaning.specs.Graph.{Graph, lookup, ids}
 use Rattle.meaning.specs.Pattern.{var, op, Pattern, free}
 use Rattle.meaning.specs.Instance.{inst, all_some}
 use Rattle.meaning.specs.Program.{Held, vars, at}

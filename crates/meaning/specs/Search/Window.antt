@@ -1,23 +1,22 @@
 -- A pattern's words as a part of a list of nodes, and sets of its variables by their places. Assumes nothing.
-use Rattle.std.specs.Prelude.{ℕ, zero, suc, ◌+◌, ◌-◌, ◌^◌, ◌<◌, ◌≤◌, ◌≡◌, refl, List, [], ◌∷◌, map, ◌⊎◌, Bool, true, false, cond, not, eqb, length}
+use Rattle.std.specs.Prelude.{ℕ, ◌+◌, ◌-◌, ◌^◌, ◌<◌, ◌≤◌, ◌≡◌, refl, List, map, ◌⊎◌, true, not, length}
 use Rattle.std.proofs.Common.{sym, ap, ◌∙◌, inl, inr, ⊎_elim, eq-eqb, ne_eqb, lt_of_le_of_lt, arith}
 use mathlib.Core.List.{Memᴰ as Mem}
 use Rattle.std.specs.Int.Bits.{bit_and, bit_or}
 use Rattle.std.proofs.lemmas.Nat.{or_lt, and_le_l}
 use Rattle.std.specs.Int.Count.{ones}
 use Rattle.std.proofs.Math.Pow.{pow-lt}
-use Rattle.std.proofs.lemmas.Bool.{not-true, not-false}
+use Rattle.std.proofs.lemmas.Bool.{not-true}
 use Rattle.meaning.specs.declared.Reg.{Reg}
 use Rattle.meaning.specs.Tests.{Opt, none, some, and, apart, and_left, and_right, and_both, not_true_false}
 use Rattle.meaning.specs.Lists.{NoDup}
 use Rattle.meaning.specs.Words.{word}
-use Rattle.meaning.specs.Pattern.{PNode, var, op, Pattern, node_of}
+use Rattle.meaning.specs.Pattern.{var, op, Pattern, node_of}
 use Rattle.meaning.specs.PatternWords.{kind_at, number_at, children_of, pnode_at}
-use Rattle.meaning.specs.GoodPattern.{PatternNodes}
 use Rattle.meaning.specs.Program.{Held, vars}
 use Rattle.meaning.specs.Compiler.{reg_of, unbound_in}
 use Rattle.meaning.specs.Multi.{shift_node}
-use Rattle.meaning.specs.Masks.{bit_in, count}
+use Rattle.meaning.specs.Masks.{bit_in}
 use Rattle.meaning.specs.Laws.Masks.{in_or, or_left, or_right, in_one, one_in, in_zero, in_without, ones_count, count_same}
 use Rattle.meaning.specs.Search.Bindings.{reg_mem, reg_none, mem_var}
 use Rattle.meaning.specs.Search.Counting.{unbound_count}

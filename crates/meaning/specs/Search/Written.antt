@@ -1,11 +1,11 @@
 -- The records of a program, written step by step. Assumes nothing.
 use Rattle.std.specs.Prelude.{ℕ, suc, ◌+◌, ◌≡◌, refl, List, [], ◌∷◌, ◌++◌, Bool, true, false, cond, not, length}
-use Rattle.std.proofs.Common.{sym, ap, ◌∙◌, append_assoc, add-one}
+use Rattle.std.proofs.Common.{sym, ap, ◌∙◌, append_assoc}
 use Rattle.meaning.specs.declared.Reg.{Reg}
 use Rattle.meaning.specs.Tests.{Opt, none, some, and}
 use Rattle.meaning.specs.Pattern.{PNode, var, op, Pattern, node_of, Ordered}
-use Rattle.meaning.specs.Program.{Instr, bind, compare, lookat, scan, reg, Held}
-use Rattle.meaning.specs.Compiler.{Item, item, Root, State, state, Step, step, Prog, prog, reg_of, is_ground, choose, is_leaf, number, met_var, met, taken, bind_once, entered, enter, after, joined, rooted, step_of}
+use Rattle.meaning.specs.Program.{Instr, bind, lookat, reg, Held}
+use Rattle.meaning.specs.Compiler.{Item, item, Root, State, state, Step, step, Prog, prog, reg_of, is_ground, choose, is_leaf, number, met_var, met, taken, entered, enter, after, joined, rooted, step_of}
 use Rattle.meaning.specs.Records.{Frame, record_of, grown, encode, grown_by}
 use Rattle.meaning.specs.Search.Steps.{Sane}
 use Rattle.meaning.specs.Search.Running.{run, run_step}

@@ -12,7 +12,7 @@ use lib.ListN.{length}
 use mathlib.Core.List.{List}
 use mathlib.Core.Bool.{Bool, true, false}
 use mathlib.Core.Path.{◌≡◌, sym, ◌∙◌}
-use Prim.Native.Nat.{ℕ, ◌-◌, ◌<◌, ◌≤◌}
+use Prim.Native.Nat.{ℕ, ◌<◌, ◌≤◌}
 use native.Mathlib.Omega.{arith}
 use borrow.Author.Rules.{rules}
 use Rattle.pattern.proofs.check.Goals as goal
@@ -90,4 +90,3 @@ returns-then-good_limits c = refuses _ _ _ c.refused-then-good_limits.ensures (m
 
 pub returns : goal.returns
 returns c = refuses _ _ _ c.refused-2.ensures (over _ c.if-w-lt4.false _ c.good_limits.ensures c.if-good_limits.false) (omega arith)
-

@@ -10,7 +10,6 @@ use mathlib.Core.List.{List}
 use mathlib.Core.Bool.{Bool, true, false}
 use mathlib.Core.Path.{◌≡◌, sym, ◌∙◌}
 use Prim.Native.Nat.{ℕ}
-use borrow.Author.Rules.{rules}
 use Rattle.pattern.proofs.good_nodes.Goals as goal
 
 -- with good parts the children's ranges join
@@ -44,4 +43,3 @@ returns-else-good-2 c = search unused
 
 pub returns-else-good : goal.returns-else-good
 returns-else-good c = search unfit
-

@@ -1,7 +1,5 @@
 use Rattle.meaning.specs.Refusal.{good_classes}
 use Rattle.meaning.proofs.Laws.Loops.{both, first_fails}
-use native.Mathlib.Omega.{arith}
-use borrow.Author.Rules.{rules}
 use Rattle.checker.proofs.classes.good.Goals as goal
 
 pub returns-then-good_ids : goal.returns-then-good_ids
@@ -11,4 +9,3 @@ returns-then-good_ids c = search both
 pub returns : goal.returns
 unfolding good_classes
 returns c = search first_fails
-

@@ -1,11 +1,4 @@
-use Rattle.meaning.specs.Refusal.{canonicals, ids_to}
 use Rattle.checker.proofs.Ids.{start, stays, grows, full, other, ended}
-use Rattle.meaning.specs.declared.Layout.{Layout}
-use mathlib.Core.List.{List}
-use mathlib.Core.Bool.{Bool, true, false}
-use mathlib.Core.Path.{◌≡◌, refl, sym, ap, ◌∙◌}
-use Prim.Native.Nat.{ℕ, ◌+◌, ◌-◌, ◌<◌, ◌≤◌}
-use native.Mathlib.Omega.{arith}
 use borrow.Author.Rules.{rules}
 use Rattle.checker.proofs.classes.good_ids.Goals as goal
 
@@ -26,4 +19,3 @@ loop-x-preserved c = (search rules, search rules, search stays)
 
 pub returns : goal.returns
 returns c = search ended
-

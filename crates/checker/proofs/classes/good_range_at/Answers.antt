@@ -6,11 +6,9 @@ use borrow.Author.Tests.{lt-ltb, le-ltb}
 use lib.Dec.{eqb}
 use Rattle.meaning.specs.declared.Layout.{Layout}
 use mathlib.Core.List.{List}
-use mathlib.Core.Bool.{Bool, true, false}
-use mathlib.Core.Path.{◌≡◌, refl, sym, ap, ◌∙◌}
-use Prim.Native.Nat.{ℕ, ◌+◌, ◌-◌, ◌<◌, ◌≤◌}
-use native.Mathlib.Omega.{arith}
-use borrow.Author.Rules.{rules}
+use mathlib.Core.Bool.{false}
+use mathlib.Core.Path.{◌≡◌}
+use Prim.Native.Nat.{ℕ, ◌<◌, ◌≤◌}
 use Rattle.checker.proofs.classes.good_range_at.Goals as goal
 
 filled : (t : List ℕ) (l : Layout) (j a b e : ℕ) → a ≡ count_at t l j → b ≡ first_at t l j → e ≡ end_before (first_at t l) (count_at t l) j → 0 < a → eqb b e ≡ good_range_at t l j
@@ -26,4 +24,3 @@ returns-then-count_at-gt0 c = search filled
 
 pub returns : goal.returns
 returns c = search empty
-

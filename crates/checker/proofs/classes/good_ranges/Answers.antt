@@ -6,10 +6,9 @@ use lib.Dec.{eqb}
 use Rattle.meaning.proofs.Laws.Loops.{more, broken, passed}
 use Rattle.meaning.specs.declared.Layout.{Layout}
 use mathlib.Core.List.{List}
-use mathlib.Core.Bool.{Bool, true, false}
-use mathlib.Core.Path.{◌≡◌, refl, sym, ap, ◌∙◌}
-use Prim.Native.Nat.{ℕ, ◌+◌, ◌-◌, ◌<◌, ◌≤◌}
-use native.Mathlib.Omega.{arith}
+use mathlib.Core.Bool.{true, false}
+use mathlib.Core.Path.{◌≡◌, refl, sym}
+use Prim.Native.Nat.{ℕ}
 use borrow.Author.Rules.{rules}
 use Rattle.checker.proofs.classes.good_ranges.Goals as goal
 
@@ -33,4 +32,3 @@ loop-j-preserved c = (search rules, search more)
 
 pub returns : goal.returns
 returns c = ended _ _ _ c.node_end.ensures.0 (search passed)
-

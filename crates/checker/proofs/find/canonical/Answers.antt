@@ -5,11 +5,9 @@ use borrow.Author.Tests.{lt-ltb, le-ltb}
 use lib.Dec.{eqb}
 use Rattle.meaning.specs.declared.Layout.{Layout}
 use mathlib.Core.List.{List}
-use mathlib.Core.Bool.{Bool, true, false}
-use mathlib.Core.Path.{◌≡◌, refl, sym, ap, ◌∙◌}
-use Prim.Native.Nat.{ℕ, ◌+◌, ◌-◌, ◌<◌, ◌≤◌}
-use native.Mathlib.Omega.{arith}
-use borrow.Author.Rules.{rules}
+use mathlib.Core.Bool.{false}
+use mathlib.Core.Path.{◌≡◌}
+use Prim.Native.Nat.{ℕ, ◌<◌, ◌≤◌}
 use Rattle.checker.proofs.find.canonical.Goals as goal
 
 below : (t : List ℕ) (l : Layout) (x f : ℕ) → f ≡ find_at t l x → x < l.i → eqb f x ≡ is_canonical t l x
@@ -25,4 +23,3 @@ returns-then-x-l c = search below
 
 pub returns : goal.returns
 returns c = search past
-

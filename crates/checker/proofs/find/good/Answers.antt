@@ -1,11 +1,7 @@
-use Rattle.meaning.specs.Refusal.{good_find_at, good_find}
+use Rattle.meaning.specs.Refusal.{good_find}
 use Rattle.meaning.specs.Tests.{all_below}
 use Rattle.meaning.proofs.Laws.Loops.{more, broken, passed}
-use mathlib.Core.List.{List}
-use mathlib.Core.Bool.{Bool, true, false}
-use mathlib.Core.Path.{◌≡◌, refl, sym, ap, ◌∙◌}
-use Prim.Native.Nat.{ℕ, ◌+◌, ◌-◌, ◌<◌, ◌≤◌}
-use native.Mathlib.Omega.{arith}
+use mathlib.Core.Path.{refl, sym}
 use borrow.Author.Rules.{rules}
 use Rattle.checker.proofs.find.good.Goals as goal
 
@@ -23,4 +19,3 @@ loop-x-preserved c = (search rules, search more)
 pub returns : goal.returns
 unfolding good_find
 returns c = sym (search passed)
-

@@ -4,11 +4,9 @@ use Rattle.meaning.specs.Tests.{and, and_fails_left, and_fails_right}
 use borrow.Author.Tests.{le-leb, lt-leb}
 use lib.Dec.{leb}
 use mathlib.Core.List.{List}
-use mathlib.Core.Bool.{Bool, true, false}
-use mathlib.Core.Path.{◌≡◌, refl, sym, ap, ◌∙◌}
-use Prim.Native.Nat.{ℕ, ◌+◌, ◌-◌, ◌<◌, ◌≤◌}
-use native.Mathlib.Omega.{arith}
-use borrow.Author.Rules.{rules}
+use mathlib.Core.Bool.{true, false}
+use mathlib.Core.Path.{◌≡◌, sym}
+use Prim.Native.Nat.{ℕ, ◌<◌, ◌≤◌}
 use Rattle.checker.proofs.header.good_limits.Goals as goal
 
 -- `checker::header::good_limits` meets its contract: a count over its limit fails its own test, whatever the others say.
@@ -48,4 +46,3 @@ returns-then-at-gt65536-3 c = search nodes
 
 pub returns : goal.returns
 returns c = search children
-

@@ -6,11 +6,10 @@ use lib.ListN.{length}
 use lib.Dec.{eqb}
 use Rattle.meaning.specs.declared.Layout.{Layout}
 use mathlib.Core.List.{List}
-use mathlib.Core.Bool.{Bool, true, false}
-use mathlib.Core.Path.{◌≡◌, refl, sym, ap, ◌∙◌}
-use Prim.Native.Nat.{ℕ, ◌+◌, ◌-◌, ◌<◌, ◌≤◌}
+use mathlib.Core.Bool.{true, false}
+use mathlib.Core.Path.{◌≡◌, sym, ap}
+use Prim.Native.Nat.{ℕ, ◌+◌}
 use native.Mathlib.Omega.{arith}
-use borrow.Author.Rules.{rules}
 use Rattle.checker.proofs.header.good_shape.Goals as goal
 
 -- `checker::header::good_shape` meets its contract: an offset that is not the layout's fails its own test, whatever the others say.
@@ -78,4 +77,3 @@ pub returns : goal.returns
 returns c = long _ _ c.requires.2 _ _ _ _ _
     c.at.ensures.0 c.at-2.ensures.0 c.at-3.ensures.0 c.at-4.ensures.0 c.at-5.ensures.0
     c.if-at-l.false c.if-at-l-2.false c.if-at-l-3.false c.if-at-l-4.false c.if-at-l-5.false
-

@@ -5,12 +5,11 @@ use Rattle.meaning.specs.Words.{index_at, node_at}
 use Rattle.meaning.specs.Graph.{less}
 use Rattle.meaning.specs.Tests.{and, all_below, and_left, and_fails_left, all_at}
 use borrow.Author.Tests.{lt-ltb, le-ltb, ltb-true}
-use lib.Dec.{ltb}
 use Rattle.meaning.specs.declared.Layout.{Layout}
 use mathlib.Core.List.{List}
 use mathlib.Core.Bool.{Bool, true, false}
-use mathlib.Core.Path.{◌≡◌, refl, sym, ap, ◌∙◌}
-use Prim.Native.Nat.{ℕ, ◌+◌, ◌-◌, ◌<◌, ◌≤◌}
+use mathlib.Core.Path.{◌≡◌, sym}
+use Prim.Native.Nat.{ℕ, ◌-◌, ◌<◌, ◌≤◌}
 use native.Mathlib.Omega.{arith}
 use borrow.Author.Rules.{rules}
 use Rattle.checker.proofs.index.good_at.Goals as goal
@@ -45,4 +44,3 @@ returns-then-i-l c = search later
 
 pub returns : goal.returns
 returns c = search past
-

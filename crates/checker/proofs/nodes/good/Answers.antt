@@ -1,7 +1,5 @@
 use Rattle.meaning.specs.Refusal.{good_nodes}
 use Rattle.meaning.proofs.Laws.Loops.{both, first_fails}
-use native.Mathlib.Omega.{arith}
-use borrow.Author.Rules.{rules}
 use Rattle.checker.proofs.nodes.good.Goals as goal
 
 pub returns-then-good_members : goal.returns-then-good_members
@@ -11,4 +9,3 @@ returns-then-good_members c = search both
 pub returns : goal.returns
 unfolding good_nodes
 returns c = search first_fails
-

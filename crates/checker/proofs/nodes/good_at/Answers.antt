@@ -3,14 +3,12 @@ use Rattle.meaning.specs.Words.{kid_at, arity_at}
 use Rattle.meaning.specs.Ranges.{end_before}
 use Rattle.meaning.specs.Tests.{and, and_fails_left, and_fails_right}
 use borrow.Author.Tests.{le-leb, lt-leb, eq-eqb, ne_eqb}
-use lib.Dec.{eqb, leb}
+use lib.Dec.{leb}
 use Rattle.meaning.specs.declared.Layout.{Layout}
 use mathlib.Core.List.{List}
-use mathlib.Core.Bool.{Bool, true, false}
-use mathlib.Core.Path.{◌≡◌, refl, sym, ap, ◌∙◌}
-use Prim.Native.Nat.{ℕ, ◌+◌, ◌-◌, ◌<◌, ◌≤◌}
-use native.Mathlib.Omega.{arith}
-use borrow.Author.Rules.{rules}
+use mathlib.Core.Bool.{false}
+use mathlib.Core.Path.{◌≡◌, sym}
+use Prim.Native.Nat.{ℕ, ◌+◌, ◌<◌, ◌≤◌}
 use Rattle.checker.proofs.nodes.good_at.Goals as goal
 
 module _ (t : List ℕ) (l : Layout) (i a : ℕ) (e : a ≡ arity_at t l i) where
@@ -35,4 +33,3 @@ returns-then-kid-kid_end c = search apart
 
 pub returns : goal.returns
 returns c = search joins
-

@@ -3,11 +3,10 @@ use Rattle.meaning.specs.Words.{child_at}
 use Rattle.meaning.specs.Tests.{all_below}
 use Rattle.meaning.proofs.Laws.Loops.{more, broken, passed}
 use mathlib.Core.List.{List}
-use mathlib.Core.Bool.{Bool, true, false}
-use mathlib.Core.Path.{◌≡◌, refl, sym, ap, ◌∙◌}
+use mathlib.Core.Bool.{Bool}
+use mathlib.Core.Path.{◌≡◌, refl, sym}
 use Rattle.meaning.specs.declared.Layout.{Layout}
-use Prim.Native.Nat.{ℕ, ◌+◌, ◌-◌, ◌<◌, ◌≤◌}
-use native.Mathlib.Omega.{arith}
+use Prim.Native.Nat.{ℕ}
 use borrow.Author.Rules.{rules}
 use Rattle.checker.proofs.nodes.good_children.Goals as goal
 
@@ -29,4 +28,3 @@ loop-x-preserved c = (search rules, search (more, child))
 pub returns : goal.returns
 unfolding good_children
 returns c = sym (search passed)
-

@@ -4,12 +4,11 @@ use Rattle.meaning.specs.Words.{first_at, id_at, kid_at, arity_at, owner_at, nod
 use Rattle.meaning.specs.Graph.{less}
 use Rattle.meaning.specs.Tests.{and, all_below, and_left, and_right, and_fails_left, and_fails_right, all_at}
 use borrow.Author.Tests.{eq-eqb, ne_eqb, leb-true}
-use lib.Dec.{eqb}
 use Rattle.meaning.specs.declared.Layout.{Layout}
 use mathlib.Core.List.{List}
 use mathlib.Core.Bool.{Bool, true, false}
-use mathlib.Core.Path.{◌≡◌, refl, sym, ap, ◌∙◌}
-use Prim.Native.Nat.{ℕ, ◌+◌, ◌-◌, ◌<◌, ◌≤◌}
+use mathlib.Core.Path.{◌≡◌, sym, ◌∙◌}
+use Prim.Native.Nat.{ℕ, ◌+◌, ◌-◌, ◌≤◌}
 use native.Mathlib.Omega.{arith}
 use borrow.Author.Rules.{rules}
 use Rattle.checker.proofs.nodes.good_member_at.Goals as goal
@@ -61,4 +60,3 @@ returns-then-good_at c = later _ _ _ _ _ c.first_at.ensures.0 _ _ c.owner_at.ens
 
 pub returns : goal.returns
 returns c = search broken
-

@@ -3,11 +3,10 @@ use Rattle.meaning.specs.Tests.{all_below}
 use Rattle.meaning.proofs.Laws.Loops.{more, broken, passed}
 use mathlib.Core.List.{List}
 use mathlib.Core.Bool.{Bool, true, false}
-use mathlib.Core.Path.{◌≡◌, refl, sym, ap, ◌∙◌}
+use mathlib.Core.Path.{◌≡◌, refl, sym}
 use Rattle.meaning.specs.declared.Layout.{Layout}
 use Rattle.meaning.specs.Words.{count_at}
-use Prim.Native.Nat.{ℕ, ◌+◌, ◌-◌, ◌<◌, ◌≤◌}
-use native.Mathlib.Omega.{arith}
+use Prim.Native.Nat.{ℕ, ◌<◌, ◌≤◌}
 use borrow.Author.Rules.{rules}
 use Rattle.checker.proofs.nodes.good_members_at.Goals as goal
 
@@ -32,4 +31,3 @@ loop-k-preserved c = (search rules, search more)
 
 pub returns : goal.returns
 returns c = search holds
-

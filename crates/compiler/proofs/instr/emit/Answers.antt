@@ -1,9 +1,6 @@
 use lib.ListN.{set}
 use mathlib.Core.Path.{ap}
-use native.Mathlib.Omega.{arith}
-use borrow.Author.Rules.{rules}
 use Rattle.compiler.proofs.instr.emit.Goals as goal
 
 pub returns : goal.returns
 returns c = ap (set c.args.code.now c.args.n) c.pack.ensures
-

@@ -3,14 +3,13 @@ use Rattle.meaning.proofs.Laws.Keys.{smaller_lt, smaller_gt, smaller_eq}
 use Rattle.meaning.specs.Compiler.{late}
 use Rattle.meaning.specs.Words.{word}
 use Rattle.meaning.specs.Graph.{smaller}
-use borrow.Author.Tests.{eq-eqb, ne_eqb, lt-ltb, le-ltb, ltb-true, ltb-false}
+use borrow.Author.Tests.{eq-eqb, ne_eqb, ltb-true, ltb-false}
 use lib.Dec.{eqb, ltb}
-use mathlib.Core.List.{List, [], ◌∷◌}
-use mathlib.Core.Bool.{Bool, true, false, cond}
+use mathlib.Core.List.{List}
+use mathlib.Core.Bool.{Bool, true, false}
 use mathlib.Core.Path.{◌≡◌, refl, sym, ap, ◌∙◌}
-use Prim.Native.Nat.{ℕ, ◌+◌, ◌-◌, ◌<◌, ◌≤◌}
+use Prim.Native.Nat.{ℕ}
 use native.Mathlib.Omega.{arith}
-use borrow.Author.Rules.{rules}
 use Rattle.compiler.proofs.items.goes_first.Goals as goal
 
 -- two different numbers decide
@@ -73,4 +72,3 @@ returns-then-x-y c = lower _ _ _ _ _ _ _ c.n_free-a.ensures c.n_free-b.ensures c
 
 pub returns : goal.returns
 returns c = earlier _ _ _ _ _ _ _ c.n_free-a.ensures c.n_free-b.ensures c.if-a-b.false c.if-s-t.false c.if-x-y.false
-

@@ -1,11 +1,10 @@
-use Rattle.compiler.specs.Arrays.{goes_first}
 use Rattle.meaning.specs.Compiler.{best}
 use native.Mathlib.Numerals.{add-one}
 use lib.ListN.{get_or}
-use mathlib.Core.List.{List, [], ◌∷◌}
-use mathlib.Core.Bool.{Bool, true, false, cond}
-use mathlib.Core.Path.{◌≡◌, refl, sym, ap, ◌∙◌}
-use Prim.Native.Nat.{ℕ, ◌+◌, ◌-◌, ◌<◌, ◌≤◌}
+use mathlib.Core.List.{List, []}
+use mathlib.Core.Bool.{Bool, true, false}
+use mathlib.Core.Path.{◌≡◌, refl}
+use Prim.Native.Nat.{ℕ, ◌+◌, ◌≤◌}
 use native.Mathlib.Omega.{arith}
 use borrow.Author.Rules.{rules}
 use Rattle.compiler.proofs.items.next.Goals as goal
@@ -37,4 +36,3 @@ loop-i-preserved c = (search rules, search rules, worse _ _ _ _ c.loop-i.invaria
 
 pub returns : goal.returns
 returns c = ended _ _ _ _ _ c.loop-i.invariant.2 c.loop-i.invariant.0 c.loop-i-test.false
-

@@ -1,13 +1,8 @@
 use Rattle.compiler.specs.Arrays.{goes_first}
 use Rattle.meaning.specs.Compiler.{best}
-use native.Mathlib.Numerals.{add-one}
-use lib.ListN.{get_or}
-use mathlib.Core.List.{List, [], ◌∷◌}
-use mathlib.Core.Bool.{Bool, true, false, cond}
-use mathlib.Core.Path.{◌≡◌, refl, sym, ap, ◌∙◌}
-use Prim.Native.Nat.{ℕ, ◌+◌, ◌-◌, ◌<◌, ◌≤◌}
-use native.Mathlib.Omega.{arith}
-use borrow.Author.Rules.{rules}
+use mathlib.Core.List.{[]}
+use mathlib.Core.Path.{◌≡◌}
+use Prim.Native.Nat.{◌-◌, ◌<◌, ◌≤◌}
 use Rattle.compiler.proofs.items.next.Given as goal
 
 abbrev pub invariant-loop-i : goal.invariant-loop-i

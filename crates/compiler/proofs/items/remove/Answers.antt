@@ -1,7 +1,5 @@
 use mathlib.Core.Path.{sym, ◌∙◌}
-use Rattle.compiler.proofs.Shifts.{Shifted, unshifted, shift_one, shifted_all}
-use Prim.Native.Nat.{◌-◌, ◌<◌}
-use native.Mathlib.Omega.{arith}
+use Rattle.compiler.proofs.Shifts.{unshifted, shift_one, shifted_all}
 use borrow.Author.Rules.{rules}
 use Rattle.compiler.proofs.items.remove.Goals as goal
 
@@ -13,4 +11,3 @@ loop-i-preserved c = (shift_one c.loop-i.invariant.0 (search rules), search rule
 
 pub returns : goal.returns
 returns c = (shifted_all c.args.n c.loop-i.invariant.0 (search rules) (search rules) (search rules) (search rules), c.requires.2 ∙ sym c.loop-i.invariant.0.long)
-

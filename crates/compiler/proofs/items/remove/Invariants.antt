@@ -1,8 +1,5 @@
-use mathlib.Core.Path.{sym, ◌∙◌}
-use Rattle.compiler.proofs.Shifts.{Shifted, unshifted, shift_one, shifted_all}
+use Rattle.compiler.proofs.Shifts.{Shifted}
 use Prim.Native.Nat.{◌-◌, ◌<◌}
-use native.Mathlib.Omega.{arith}
-use borrow.Author.Rules.{rules}
 use Rattle.compiler.proofs.items.remove.Given as goal
 
 abbrev pub invariant-loop-i : goal.invariant-loop-i

@@ -1,30 +1,28 @@
 use Rattle.meaning.specs.Laws.Instances.{unions_append, unions_last}
-use Rattle.meaning.specs.PatternWords.{number_at}
 use native.Mathlib.Numerals.{add-one}
 use lib.Seq.{take-suc}
 use lib.Bits.{bit_or}
 use Prim.Native.Nat.{◌^◌}
-use mathlib.Core.Logic.{◌⊎◌, inl, inr, ⊎_elim}
+use mathlib.Core.Logic.{⊎_elim}
 use mathlib.Core.List.{[], ◌∷◌, ◌++◌}
 use mathlib.Core.List.Memᴰ.{cases_cons}
-use mathlib.Core.List.Memᴰ.{cast as mem-cast}
 use mathlib.Core.List.Memᴰ.{head}
 use mathlib.Core.List.Memᴰ.{not-nil}
 use mathlib.Core.List.{Memᴰ as Mem}
-use Rattle.compiler.proofs.Nodes.{some, inside, few_children, children_here, within, lower, child_at_lem}
+use Rattle.compiler.proofs.Nodes.{some, inside, children_here, within, lower, child_at_lem}
 use Rattle.pattern.specs.declared.Pattern.{Pattern}
 use Rattle.pattern.specs.Laid.{Laid}
 use Rattle.meaning.specs.GoodPattern.{PatternNodes}
 use Rattle.meaning.specs.PatternWords.{kind_at, degree_at, start_at, child_of, children_of, pattern_of}
 use Rattle.meaning.specs.Words.{word}
 use lib.Seq.{take_all}
-use lib.ListN.{length, get_or, take}
+use lib.ListN.{length, take}
 use mathlib.Core.List.{List}
-use mathlib.Core.Path.{◌≡◌, refl, sym, ap, ◌∙◌}
-use Prim.Native.Nat.{ℕ, ◌+◌, ◌*◌, ◌-◌, ◌<◌, ◌≤◌}
+use mathlib.Core.Path.{◌≡◌, sym, ◌∙◌}
+use Prim.Native.Nat.{ℕ, ◌+◌, ◌<◌, ◌≤◌}
 use Rattle.compiler.specs.Loaded.{FreeTo}
 use Rattle.meaning.specs.Search.Window.{Places, places_none, places_one, places_or, places_shift}
-use Rattle.meaning.specs.Laws.Instances.{unions_of, unions_from}
+use Rattle.meaning.specs.Laws.Instances.{unions_from}
 use Rattle.meaning.proofs.Laws.Sizes.{free_variable, free_operator}
 use Rattle.meaning.specs.Pattern.{free, unions}
 use native.Mathlib.Omega.{arith}
@@ -82,4 +80,3 @@ loop-x-preserved c = (search rules, grow c.args.w.now c.args.frees.now c.args.p 
 
 pub returns : goal.returns
 returns c = done c.args.w.now c.args.frees.now c.args.p c.args.i _ _ c.loop-x.x c.loop-x.m c.requires.0 c.requires.1 c.requires.2 c.requires.3 c.start_at-first.ensures.0 c.degree_at-n.ensures.0 _ c.kind_at.ensures.0 c.if-kind_at-eq0.false c.loop-x-test.false c.loop-x.invariant.1
-

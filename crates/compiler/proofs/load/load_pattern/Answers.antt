@@ -13,7 +13,7 @@ use lib.ListN.{length, set, length-set}
 use mathlib.Core.List.{Memᴰ as Mem}
 use mathlib.Core.List.{List}
 use mathlib.Core.Path.{◌≡◌, sym, subst, ◌∙◌}
-use Prim.Native.Nat.{ℕ, ◌+◌, ◌-◌, ◌<◌, ◌≤◌}
+use Prim.Native.Nat.{ℕ, ◌+◌, ◌<◌, ◌≤◌}
 use native.Mathlib.Omega.{arith}
 use borrow.Author.Rules.{rules}
 use Rattle.compiler.proofs.load.load_pattern.Goals as goal
@@ -46,4 +46,3 @@ loop-i-preserved c = (search rules, rw length-set c.loop-i.invariant.1, rw lengt
 
 pub returns : goal.returns
 returns c = done c.args.w.now c.loop-i.frees c.loop-i.sizes c.args.p _ c.loop-i.i c.requires.0 refl c.loop-i-test.false c.loop-i.invariant.3 c.loop-i.invariant.4
-

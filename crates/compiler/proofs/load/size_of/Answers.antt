@@ -5,10 +5,10 @@ use Rattle.meaning.specs.GoodPattern.{PatternNodes}
 use Rattle.meaning.specs.PatternWords.{kind_at, degree_at, start_at, child_of, children_of, pattern_of}
 use Rattle.meaning.specs.Words.{word}
 use lib.Seq.{take_all}
-use lib.ListN.{length, get_or, take}
+use lib.ListN.{length, get_or}
 use mathlib.Core.List.{List}
 use mathlib.Core.Path.{◌≡◌, refl, sym, ap, ◌∙◌}
-use Prim.Native.Nat.{ℕ, ◌+◌, ◌*◌, ◌-◌, ◌<◌, ◌≤◌}
+use Prim.Native.Nat.{ℕ, ◌+◌, ◌<◌, ◌≤◌}
 use Rattle.compiler.specs.Loaded.{Few, SizedTo}
 use Rattle.meaning.proofs.Laws.Sizes.{size_variable, size_operator}
 use Rattle.meaning.specs.Laws.Sums.{sum_take}
@@ -65,4 +65,3 @@ loop-x-preserved c = (search rules, grow c.args.w.now c.args.sizes.now c.args.p 
 
 pub returns : goal.returns
 returns c = done c.args.w.now c.args.sizes.now c.args.p c.args.i _ _ c.loop-x.x c.loop-x.s c.requires.0 c.requires.1 c.requires.2 c.requires.3 c.requires.4 c.start_at-first.ensures.0 c.degree_at-n.ensures.0 _ c.kind_at.ensures.0 c.if-kind_at-eq0.false c.loop-x-test.false c.loop-x.invariant.1
-

@@ -1,20 +1,9 @@
-use Rattle.compiler.proofs.Nodes.{some, inside, few_children, children_here, within, lower, child_at_lem}
-use Rattle.pattern.specs.declared.Pattern.{Pattern}
-use Rattle.pattern.specs.Laid.{Laid}
-use Rattle.meaning.specs.GoodPattern.{PatternNodes}
-use Rattle.meaning.specs.PatternWords.{kind_at, degree_at, start_at, child_of, children_of, pattern_of}
-use Rattle.meaning.specs.Words.{word}
-use lib.Seq.{take_all}
-use lib.ListN.{length, get_or, take}
+use Rattle.meaning.specs.PatternWords.{children_of, pattern_of}
+use lib.ListN.{take}
 use mathlib.Core.List.{List}
-use mathlib.Core.Path.{◌≡◌, refl, sym, ap, ◌∙◌}
-use Prim.Native.Nat.{ℕ, ◌+◌, ◌*◌, ◌-◌, ◌<◌, ◌≤◌}
-use Rattle.compiler.specs.Loaded.{Few, SizedTo}
-use Rattle.meaning.proofs.Laws.Sizes.{size_variable, size_operator}
-use Rattle.meaning.specs.Laws.Sums.{sum_take}
+use mathlib.Core.Path.{◌≡◌}
+use Prim.Native.Nat.{ℕ, ◌+◌, ◌*◌, ◌-◌, ◌≤◌}
 use Rattle.meaning.specs.Pattern.{sum, size}
-use native.Mathlib.Omega.{arith}
-use borrow.Author.Rules.{rules}
 use Rattle.compiler.proofs.load.size_of.Given as goal
 
 -- the node itself, and its first x children's operators

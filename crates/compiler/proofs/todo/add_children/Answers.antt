@@ -7,11 +7,11 @@ use Rattle.compiler.proofs.Adding.{add_next, add_whole, room_less}
 use Rattle.compiler.proofs.Nodes.{children_here, within, lower, child_at_lem}
 use Rattle.compiler.specs.Local.{view, Sized, Room, add_todo, add_all}
 use Rattle.meaning.specs.Program.{reg}
-use Rattle.meaning.specs.PatternWords.{degree_at, children_of}
+use Rattle.meaning.specs.PatternWords.{children_of}
 use lib.ListN.{length, take}
 use mathlib.Core.List.{List}
 use mathlib.Core.Path.{◌≡◌, sym, refl, ap, ◌∙◌}
-use Prim.Native.Nat.{ℕ, ◌+◌, ◌-◌, ◌≤◌}
+use Prim.Native.Nat.{ℕ, ◌+◌, ◌-◌}
 use native.Mathlib.Omega.{arith}
 use borrow.Author.Rules.{rules}
 use Rattle.compiler.proofs.todo.add_children.Goals as goal
@@ -53,4 +53,3 @@ loop-x-preserved c = (search rules, let z = c.loop-x.invariant.1 in omega arith,
 
 pub returns : goal.returns
 returns c = (c.loop-x.invariant.2 ∙ add_whole c.args.w.now c.args.place _ _ c.loop-x.x _ (let z = children_here c.args.w.now c.args.p c.args.node _ _ c.loop-x.x c.requires.0 c.requires.1 c.requires.2 c.start_at-first.ensures.0 c.degree_at-n.ensures.0 in let y = c.loop-x-test.false in omega arith), c.loop-x.invariant.3)
-

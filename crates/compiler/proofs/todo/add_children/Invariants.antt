@@ -1,19 +1,8 @@
-use native.Mathlib.Nat.{add-zero}
-use Rattle.compiler.specs.declared.Compiler.{Compiler}
-use Rattle.compiler.specs.Local.{Local}
-use lib.ListN.{get_or}
-use Prim.Native.Nat.{◌<◌}
-use Rattle.compiler.proofs.Adding.{add_next, add_whole, room_less}
-use Rattle.compiler.proofs.Nodes.{children_here, within, lower, child_at_lem}
-use Rattle.compiler.specs.Local.{view, Sized, Room, add_todo, add_all}
-use Rattle.meaning.specs.Program.{reg}
-use Rattle.meaning.specs.PatternWords.{degree_at, children_of}
-use lib.ListN.{length, take}
-use mathlib.Core.List.{List}
-use mathlib.Core.Path.{◌≡◌, sym, refl, ap, ◌∙◌}
-use Prim.Native.Nat.{ℕ, ◌+◌, ◌-◌, ◌≤◌}
-use native.Mathlib.Omega.{arith}
-use borrow.Author.Rules.{rules}
+use Rattle.compiler.specs.Local.{view, Sized, Room, add_all}
+use Rattle.meaning.specs.PatternWords.{children_of}
+use lib.ListN.{take}
+use mathlib.Core.Path.{◌≡◌}
+use Prim.Native.Nat.{◌+◌, ◌-◌, ◌≤◌}
 use Rattle.compiler.proofs.todo.add_children.Given as goal
 
 abbrev pub invariant-loop-x : goal.invariant-loop-x

@@ -1,10 +1,7 @@
 use Rattle.compiler.specs.Arrays.{slot_of}
 use mathlib.Core.Path.{ap}
 use Rattle.compiler.proofs.Views.{compared, bound_new, waiting}
-use mathlib.Core.Path.{◌≡◌, sym, refl, ◌∙◌}
-use Prim.Native.Nat.{ℕ}
-use native.Mathlib.Omega.{arith}
-use borrow.Author.Rules.{rules}
+use mathlib.Core.Path.{sym, ◌∙◌}
 use Rattle.compiler.proofs.todo.add_todo.Goals as goal
 
 pub returns-in-At : goal.returns-in-At
@@ -15,4 +12,3 @@ returns-in-Nothing c = bound_new c.args.w.now c.args.place c.args.node c.args.r 
 
 pub returns : goal.returns
 returns c = waiting c.args.w.now c.args.place c.args.node c.args.r c.args.c c.args.code.now c.args.vars.now c.args.items.now c.requires.2 c.requires.3 _ (λ e. c.if-kind_at-eq0.false (c.kind_at.ensures.0 ∙ e)) c.push.ensures
-

@@ -6,9 +6,8 @@ use lib.Dec.{leb}
 use mathlib.Core.List.{List}
 use mathlib.Core.Bool.{false}
 use mathlib.Core.Path.{◌≡◌, sym}
-use Prim.Native.Nat.{ℕ, ◌-◌, ◌<◌, ◌≤◌}
+use Prim.Native.Nat.{ℕ, ◌<◌, ◌≤◌}
 use native.Mathlib.Omega.{arith}
-use borrow.Author.Rules.{rules}
 use Rattle.pattern.proofs.header.good_limits.Goals as goal
 
 module _ (w : List ℕ) (n : ℕ) (e : n ≡ word w 0) where
@@ -32,4 +31,3 @@ returns-then-at-gt-MAX_NODES c = search over
 
 pub returns : goal.returns
 returns c = search last
-

@@ -7,8 +7,7 @@ use lib.ListN.{length}
 use mathlib.Core.List.{List}
 use mathlib.Core.Bool.{false}
 use mathlib.Core.Path.{◌≡◌, sym}
-use Prim.Native.Nat.{ℕ, ◌+◌, ◌*◌, ◌-◌}
-use borrow.Author.Rules.{rules}
+use Prim.Native.Nat.{ℕ, ◌+◌, ◌*◌}
 use Rattle.pattern.proofs.header.good_shape.Goals as goal
 
 module _ (w : List ℕ) (n k a : ℕ) (e : n ≡ word w 0) (d : k ≡ word w 1) (f : a ≡ word w 2) where
@@ -33,4 +32,3 @@ returns-then-at-p c = search children_apart
 
 pub returns : goal.returns
 returns c = long _ _ _ _ c.requires.2.nodes c.requires.2.children c.at.ensures.0 _ c.at-2.ensures.0 c.if-at-ne4.false c.if-at-p.false
-

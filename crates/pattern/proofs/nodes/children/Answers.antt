@@ -5,7 +5,6 @@ use lib.ListN.{take, drop}
 use mathlib.Core.List.{List}
 use mathlib.Core.Path.{◌≡◌}
 use Prim.Native.Nat.{ℕ, ◌+◌, ◌*◌, ◌-◌}
-use borrow.Author.Rules.{rules}
 use Rattle.pattern.proofs.nodes.children.Goals as goal
 
 part : (w : List ℕ) (i n s a : ℕ) → n ≡ word w 0 → s ≡ start_at w i → a ≡ degree_at w i → take (4 + 4 * n + s + a - (4 + 4 * n + s)) (drop (4 + 4 * n + s) w) ≡ children_of w i
@@ -14,4 +13,3 @@ part w i n s a f e d = rw (add-sub_cancel_left, f, e, d)
 
 pub returns : goal.returns
 returns c = search part
-

@@ -29,4 +29,3 @@ loop-i-preserved c = (search rules, rw length-set c.loop-i.invariant.1, one_more
 
 pub returns : goal.returns
 returns c = last c.args.w.now c.loop-i.known _ _ c.requires.0.counted.nodes c.requires.0.some c.loop-i-test.false c.loop-i.invariant.2
-

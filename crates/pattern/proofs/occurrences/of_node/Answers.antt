@@ -8,10 +8,10 @@ use Rattle.meaning.specs.PatternWords.{degree_at, start_at, child_of, children_o
 use Rattle.meaning.specs.Pattern.{sum, occ}
 use Rattle.meaning.specs.Words.{word}
 use lib.Seq.{take_all}
-use lib.ListN.{length, get_or, take}
+use lib.ListN.{length, get_or}
 use mathlib.Core.List.{List}
 use mathlib.Core.Path.{◌≡◌, refl, sym, ap, ◌∙◌}
-use Prim.Native.Nat.{ℕ, ◌+◌, ◌*◌, ◌-◌, ◌<◌, ◌≤◌}
+use Prim.Native.Nat.{ℕ, ◌+◌, ◌*◌, ◌<◌, ◌≤◌}
 use native.Mathlib.Omega.{arith}
 use borrow.Author.Rules.{rules}
 use Rattle.pattern.proofs.occurrences.of_node.Invariants.{so_far}
@@ -73,4 +73,3 @@ loop-x-preserved c = (search rules, step c.args.w.now c.args.known.now c.args.p 
 
 pub returns : goal.returns
 returns c = done c.args.w.now c.args.known.now c.args.p c.args.i _ _ c.loop-x.x c.requires.0 c.requires.1 c.requires.2 c.requires.3 c.start_at-first.ensures.0 c.degree_at-n.ensures.0 _ c.loop-x.invariant.0 c.loop-x-test.false c.loop-x.invariant.1
-

@@ -3,9 +3,9 @@ use Rattle.meaning.specs.Words.{word}
 use Rattle.meaning.specs.Tests.{all_below}
 use Rattle.meaning.proofs.Laws.Loops.{more, broken, passed}
 use mathlib.Core.List.{List}
-use mathlib.Core.Bool.{Bool, true}
+use mathlib.Core.Bool.{Bool}
 use mathlib.Core.Path.{◌≡◌, refl, sym}
-use Prim.Native.Nat.{ℕ, ◌-◌, ◌≤◌}
+use Prim.Native.Nat.{ℕ}
 use borrow.Author.Rules.{rules}
 use Rattle.pattern.proofs.once.good.Goals as goal
 
@@ -25,4 +25,3 @@ loop-j-preserved c = (search rules, search more)
 
 pub returns : goal.returns
 returns c = counted _ _ _ c.requires.0.counted.nodes (search passed)
-

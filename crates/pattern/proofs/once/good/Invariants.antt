@@ -1,12 +1,8 @@
-use Rattle.meaning.specs.PatternRefusal.{is_new, good_once}
-use Rattle.meaning.specs.Words.{word}
+use Rattle.meaning.specs.PatternRefusal.{is_new}
 use Rattle.meaning.specs.Tests.{all_below}
-use Rattle.meaning.proofs.Laws.Loops.{more, broken, passed}
-use mathlib.Core.List.{List}
-use mathlib.Core.Bool.{Bool, true}
-use mathlib.Core.Path.{◌≡◌, refl, sym}
-use Prim.Native.Nat.{ℕ, ◌-◌, ◌≤◌}
-use borrow.Author.Rules.{rules}
+use mathlib.Core.Bool.{true}
+use mathlib.Core.Path.{◌≡◌}
+use Prim.Native.Nat.{◌-◌, ◌≤◌}
 use Rattle.pattern.proofs.once.good.Given as goal
 
 abbrev pub invariant-loop-j : goal.invariant-loop-j

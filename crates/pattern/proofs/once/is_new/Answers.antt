@@ -5,7 +5,7 @@ use Rattle.meaning.proofs.Laws.Loops.{more, broken, passed}
 use mathlib.Core.List.{List}
 use mathlib.Core.Bool.{Bool, true, false}
 use mathlib.Core.Path.{◌≡◌, refl, sym, ap, ◌∙◌}
-use Prim.Native.Nat.{ℕ, ◌+◌, ◌-◌, ◌<◌, ◌≤◌}
+use Prim.Native.Nat.{ℕ, ◌+◌, ◌<◌, ◌≤◌}
 use borrow.Author.Rules.{rules}
 use Rattle.pattern.proofs.once.is_new.Goals as goal
 
@@ -33,4 +33,3 @@ loop-i-preserved c = (search rules, other _ _ _ _ c.same.ensures c.if-same.false
 
 pub returns : goal.returns
 returns c = search new
-

@@ -1,12 +1,9 @@
-use Rattle.meaning.specs.PatternRefusal.{is_same, is_new}
+use Rattle.meaning.specs.PatternRefusal.{is_same}
 use Rattle.meaning.specs.Tests.{all_below}
 use mathlib.Core.Bool.{not}
-use Rattle.meaning.proofs.Laws.Loops.{more, broken, passed}
-use mathlib.Core.List.{List}
-use mathlib.Core.Bool.{Bool, true, false}
-use mathlib.Core.Path.{◌≡◌, refl, sym, ap, ◌∙◌}
-use Prim.Native.Nat.{ℕ, ◌+◌, ◌-◌, ◌<◌, ◌≤◌}
-use borrow.Author.Rules.{rules}
+use mathlib.Core.Bool.{true}
+use mathlib.Core.Path.{◌≡◌}
+use Prim.Native.Nat.{◌-◌, ◌≤◌}
 use Rattle.pattern.proofs.once.is_new.Given as goal
 
 abbrev pub invariant-loop-i : goal.invariant-loop-i

@@ -6,8 +6,7 @@ use borrow.Author.Tests.{eq-eqb, ne_eqb}
 use mathlib.Core.List.{List}
 use mathlib.Core.Bool.{Bool, false}
 use mathlib.Core.Path.{◌≡◌, sym}
-use Prim.Native.Nat.{ℕ, ◌-◌}
-use borrow.Author.Rules.{rules}
+use Prim.Native.Nat.{ℕ}
 use Rattle.pattern.proofs.once.same.Goals as goal
 
 module _ (w : List ℕ) (i j a b : ℕ) (e : a ≡ kind_at w i) (d : b ≡ kind_at w j) where
@@ -38,4 +37,3 @@ children-requires-2 c = (c.requires.0, c.requires.3, joined_within c.requires.1 
 
 pub returns : goal.returns
 returns c = search by_children
-

@@ -8,7 +8,7 @@ use Rattle.meaning.proofs.Laws.Loops.{more, broken, passed}
 use mathlib.Core.List.{List}
 use mathlib.Core.Bool.{true, false}
 use mathlib.Core.Path.{◌≡◌, refl, sym}
-use Prim.Native.Nat.{ℕ, ◌-◌, ◌≤◌}
+use Prim.Native.Nat.{ℕ}
 use borrow.Author.Rules.{rules}
 use Rattle.pattern.proofs.parts.good.Goals as goal
 
@@ -33,4 +33,3 @@ loop-i-preserved c = (search rules, search more)
 
 pub returns : goal.returns
 returns c = ended _ _ c.requires.counted.nodes _ _ c.requires.counted.children c.end_before.ensures.0 (search passed)
-

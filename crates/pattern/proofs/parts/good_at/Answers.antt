@@ -9,8 +9,7 @@ use lib.Dec.{eqb, leb}
 use mathlib.Core.List.{List}
 use mathlib.Core.Bool.{Bool, true, false}
 use mathlib.Core.Path.{◌≡◌, refl, sym, ◌∙◌}
-use Prim.Native.Nat.{ℕ, ◌+◌, ◌-◌, ◌<◌, ◌≤◌}
-use borrow.Author.Rules.{rules}
+use Prim.Native.Nat.{ℕ, ◌+◌, ◌<◌, ◌≤◌}
 use Rattle.pattern.proofs.parts.good_at.Goals as goal
 
 regroup : (a b c d : Bool) → and a (and b (and c d)) ≡ and (and a (and b c)) d
@@ -50,4 +49,3 @@ returns-then-good_arity c = whole _ _ _ _ _ c.degree_at-arity.ensures.0 c.kind_a
 
 pub returns : goal.returns
 returns c = unfit _ _ _ _ _ c.degree_at-arity.ensures.0 c.kind_at.ensures.0 c.good_arity.ensures c.if-good_arity.false
-

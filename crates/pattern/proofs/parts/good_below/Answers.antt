@@ -7,7 +7,7 @@ use Rattle.meaning.proofs.Laws.Loops.{more, broken, passed}
 use mathlib.Core.List.{List}
 use mathlib.Core.Bool.{true, false}
 use mathlib.Core.Path.{◌≡◌, refl, sym}
-use Prim.Native.Nat.{ℕ, ◌+◌, ◌-◌, ◌<◌, ◌≤◌}
+use Prim.Native.Nat.{ℕ, ◌+◌, ◌<◌, ◌≤◌}
 use native.Mathlib.Omega.{arith}
 use borrow.Author.Rules.{rules}
 use Rattle.pattern.proofs.parts.good_below.Goals as goal
@@ -36,4 +36,3 @@ loop-x-preserved c = (search rules, lower c.args.w.now c.args.i _ _ c.loop-x.x _
 
 pub returns : goal.returns
 returns c = search all_lower
-

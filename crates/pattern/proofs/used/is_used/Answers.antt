@@ -9,7 +9,7 @@ use Rattle.meaning.proofs.Laws.Loops.{unmet, met, none_met}
 use mathlib.Core.List.{List}
 use mathlib.Core.Bool.{true, false}
 use mathlib.Core.Path.{◌≡◌, refl, sym}
-use Prim.Native.Nat.{ℕ, ◌+◌, ◌-◌, ◌<◌, ◌≤◌}
+use Prim.Native.Nat.{ℕ, ◌+◌, ◌<◌, ◌≤◌}
 use native.Mathlib.Omega.{arith}
 use borrow.Author.Rules.{rules}
 use Rattle.pattern.proofs.used.is_used.Goals as goal
@@ -38,4 +38,3 @@ loop-x-preserved c = (search rules, another c.args.w.now c.args.i _ c.loop-x.x c
 
 pub returns : goal.returns
 returns c = search nowhere
-

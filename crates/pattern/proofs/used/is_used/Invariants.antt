@@ -1,17 +1,10 @@
-use Rattle.meaning.specs.PatternRefusal.{is_used}
 use Rattle.meaning.specs.PatternWords.{child_of}
 use Rattle.meaning.specs.Tests.{all_below}
-use Rattle.meaning.specs.Words.{word}
-use borrow.Author.Tests.{eq-eqb, ne_eqb}
 use lib.Dec.{eqb}
 use mathlib.Core.Bool.{not}
-use Rattle.meaning.proofs.Laws.Loops.{unmet, met, none_met}
-use mathlib.Core.List.{List}
-use mathlib.Core.Bool.{true, false}
-use mathlib.Core.Path.{◌≡◌, refl, sym}
-use Prim.Native.Nat.{ℕ, ◌+◌, ◌-◌, ◌<◌, ◌≤◌}
-use native.Mathlib.Omega.{arith}
-use borrow.Author.Rules.{rules}
+use mathlib.Core.Bool.{true}
+use mathlib.Core.Path.{◌≡◌}
+use Prim.Native.Nat.{◌-◌, ◌≤◌}
 use Rattle.pattern.proofs.used.is_used.Given as goal
 
 abbrev pub invariant-loop-x : goal.invariant-loop-x

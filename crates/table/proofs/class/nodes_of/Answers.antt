@@ -1,6 +1,4 @@
 use Rattle.table.proofs.Classes.{past_all, other_id, its_nodes}
-use native.Mathlib.Omega.{arith}
-use borrow.Author.Rules.{rules}
 use Rattle.table.proofs.class.nodes_of.Goals as goal
 
 pub returns-then-id_at-id : goal.returns-then-id_at-id
@@ -11,4 +9,3 @@ returns-else-id_at-id c = other_id c.requires _ _ c.records_below-j.ensures _ c.
 
 pub returns-else-j-l : goal.returns-else-j-l
 returns-else-j-l c = past_all c.requires _ _ c.records_below-j.ensures c.if-j-l.false
-

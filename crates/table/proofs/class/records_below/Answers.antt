@@ -1,14 +1,9 @@
 use Rattle.table.proofs.Bisect.{up, down, ids_fall}
 use Rattle.table.specs.Spans.{id_below}
-use Rattle.meaning.specs.Laws.Bisection.{Bracket, bracket_start, bracket_met}
-use lib.Dec.{ltb}
+use Rattle.meaning.specs.Laws.Bisection.{bracket_start, bracket_met}
 use borrow.Author.Tests.{lt-ltb, le-ltb}
-use mathlib.Core.List.{List}
-use mathlib.Core.Bool.{Bool, true, false}
-use mathlib.Core.Path.{◌≡◌, refl, sym, ap, ◌∙◌}
-use Prim.Native.Nat.{ℕ, ◌+◌, ◌-◌, ◌/◌, ◌<◌, ◌≤◌}
-use native.Mathlib.Omega.{arith}
-use borrow.Author.Rules.{rules}
+use mathlib.Core.Bool.{true, false}
+use mathlib.Core.Path.{refl, sym}
 use Rattle.table.proofs.class.records_below.Goals as goal
 
 pub loop-lo-init : goal.loop-lo-init
@@ -24,4 +19,3 @@ loop-lo-preserved c = down (ids_fall c.requires _) c.loop-lo.invariant c.loop-lo
 
 pub returns : goal.returns
 returns c = bracket_met _ _ c.loop-lo.invariant c.loop-lo-test.false
-

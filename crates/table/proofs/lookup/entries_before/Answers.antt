@@ -1,12 +1,5 @@
 use Rattle.table.proofs.Bisect.{up, down, entries_fall}
-use Rattle.table.specs.Lookups.{entry_before}
-use Rattle.meaning.specs.Laws.Bisection.{Bracket, bracket_start, bracket_met}
-use mathlib.Core.List.{List}
-use mathlib.Core.Bool.{Bool, true, false}
-use mathlib.Core.Path.{◌≡◌, refl, sym, ap, ◌∙◌}
-use Prim.Native.Nat.{ℕ, ◌+◌, ◌-◌, ◌/◌, ◌<◌, ◌≤◌}
-use native.Mathlib.Omega.{arith}
-use borrow.Author.Rules.{rules}
+use Rattle.meaning.specs.Laws.Bisection.{bracket_start, bracket_met}
 use Rattle.table.proofs.lookup.entries_before.Goals as goal
 
 pub loop-lo-init : goal.loop-lo-init
@@ -20,4 +13,3 @@ loop-lo-preserved c = down (entries_fall c.requires _ _) c.loop-lo.invariant c.l
 
 pub returns : goal.returns
 returns c = bracket_met _ _ c.loop-lo.invariant c.loop-lo-test.false
-

@@ -1,12 +1,6 @@
-use Rattle.table.proofs.Bisect.{up, down, entries_fall}
 use Rattle.table.specs.Lookups.{entry_before}
-use Rattle.meaning.specs.Laws.Bisection.{Bracket, bracket_start, bracket_met}
-use mathlib.Core.List.{List}
-use mathlib.Core.Bool.{Bool, true, false}
-use mathlib.Core.Path.{◌≡◌, refl, sym, ap, ◌∙◌}
-use Prim.Native.Nat.{ℕ, ◌+◌, ◌-◌, ◌/◌, ◌<◌, ◌≤◌}
-use native.Mathlib.Omega.{arith}
-use borrow.Author.Rules.{rules}
+use Rattle.meaning.specs.Laws.Bisection.{Bracket}
+use Prim.Native.Nat.{◌-◌}
 use Rattle.table.proofs.lookup.entries_before.Given as goal
 
 abbrev pub invariant-loop-lo : goal.invariant-loop-lo

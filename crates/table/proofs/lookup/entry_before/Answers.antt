@@ -5,11 +5,9 @@ use Rattle.meaning.specs.Words.{op_at, index_at, node_at}
 use Rattle.meaning.specs.Graph.{node, less}
 use Rattle.meaning.specs.declared.Layout.{Layout}
 use mathlib.Core.List.{List}
-use mathlib.Core.Bool.{Bool, true, false}
-use mathlib.Core.Path.{◌≡◌, refl, sym, ap, ◌∙◌}
-use Prim.Native.Nat.{ℕ, ◌+◌, ◌-◌, ◌/◌, ◌<◌, ◌≤◌}
-use native.Mathlib.Omega.{arith}
-use borrow.Author.Rules.{rules}
+use mathlib.Core.Bool.{Bool}
+use mathlib.Core.Path.{◌≡◌}
+use Prim.Native.Nat.{ℕ}
 use Rattle.table.proofs.lookup.entry_before.Goals as goal
 
 by_parts : (t : List ℕ) (l : Layout) (x i p o : ℕ) (a ks : List ℕ) (r : Bool) → r ≡ less (node p a) (node o ks) → i ≡ index_at t l x → p ≡ op_at t l i → a ≡ (node_at t l i).kids → r ≡ entry_before t l o ks x
@@ -24,4 +22,3 @@ children-requires c = let h = names c.requires.0 _ _ c.index_at-i.ensures.0 c.re
 
 pub returns : goal.returns
 returns c = search by_parts
-

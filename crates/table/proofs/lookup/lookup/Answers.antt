@@ -1,7 +1,5 @@
 use Rattle.table.proofs.Keys.{names, is_node, there, past_all, other_op, other_kids}
 use Rattle.meaning.proofs.Laws.Tables.{kids_within}
-use native.Mathlib.Omega.{arith}
-use borrow.Author.Rules.{rules}
 use Rattle.table.proofs.lookup.lookup.Goals as goal
 
 pub op_at-requires : goal.op_at-requires
@@ -26,4 +24,3 @@ returns-else-op_at-o c = other_op c.requires _ _ _ c.entries_before-x.ensures _ 
 
 pub returns-else-x-l : goal.returns-else-x-l
 returns-else-x-l c = past_all c.requires _ _ _ c.entries_before-x.ensures c.if-x-l.false
-

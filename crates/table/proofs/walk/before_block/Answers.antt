@@ -1,6 +1,4 @@
 use Rattle.table.proofs.Blocks.{lower_op, higher_op, equal_op}
-use native.Mathlib.Omega.{arith}
-use borrow.Author.Rules.{rules}
 use Rattle.table.proofs.walk.before_block.Goals as goal
 
 pub returns-then-op-o : goal.returns-then-op-o
@@ -11,4 +9,3 @@ returns-then-o-op c = higher_op c.requires.0 _ c.requires.1 _ _ _ c.op_at-op.ens
 
 pub returns : goal.returns
 returns c = equal_op c.requires.0 _ c.requires.1 _ _ _ c.op_at-op.ensures.0 _ c.arity_at.ensures.0 c.if-op-o.false c.if-o-op.false
-

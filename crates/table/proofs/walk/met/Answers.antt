@@ -1,11 +1,7 @@
-use Rattle.table.proofs.Blocks.{early, block_falls, hit, missed}
+use Rattle.table.proofs.Blocks.{block_falls, hit, missed}
 use Rattle.table.proofs.Bisect.{up, down}
-use Rattle.meaning.specs.Laws.Bisection.{Bracket, bracket_start}
-use mathlib.Core.List.{List}
-use mathlib.Core.Bool.{Bool, true, false}
-use mathlib.Core.Path.{◌≡◌, refl, sym, ap, ◌∙◌}
-use Prim.Native.Nat.{ℕ, ◌+◌, ◌-◌, ◌/◌, ◌<◌, ◌≤◌}
-use native.Mathlib.Omega.{arith}
+use Rattle.meaning.specs.Laws.Bisection.{bracket_start}
+use mathlib.Core.Path.{sym, ◌∙◌}
 use borrow.Author.Rules.{rules}
 use Rattle.table.proofs.walk.met.Goals as goal
 
@@ -23,4 +19,3 @@ loop-lo-preserved c = down (block_falls _ c.requires.1 _ _) c.loop-lo.invariant 
 
 pub returns : goal.returns
 returns c = missed _ c.requires.1 _ _ _ _ c.loop-lo.invariant c.loop-lo-test.false
-

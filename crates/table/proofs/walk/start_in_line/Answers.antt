@@ -1,9 +1,6 @@
-use borrow.Author.Count.{below_none, below_more}
-use Rattle.table.proofs.Blocks.{early, in_line, in_line_end}
-use mathlib.Core.List.{List}
-use mathlib.Core.Bool.{Bool, true, false}
-use mathlib.Core.Path.{◌≡◌, refl, sym, ap, ◌∙◌}
-use Prim.Native.Nat.{ℕ, ◌+◌, ◌-◌, ◌/◌, ◌<◌, ◌≤◌}
+use borrow.Author.Count.{below_more}
+use Rattle.table.proofs.Blocks.{in_line, in_line_end}
+use mathlib.Core.Path.{sym, ◌∙◌}
 use native.Mathlib.Omega.{arith}
 use borrow.Author.Rules.{rules}
 use Rattle.table.proofs.walk.start_in_line.Goals as goal
@@ -19,4 +16,3 @@ loop-k-preserved c = (search rules, below_more _ _ c.loop-k.invariant.1 (sym c.b
 
 pub returns : goal.returns
 returns c = in_line_end _ c.requires.1 _ _ _ c.loop-k.invariant.1 c.loop-k.invariant.0 c.loop-k-test.false
-

@@ -1,11 +1,7 @@
-use borrow.Author.Count.{below_none, below_more}
-use Rattle.table.proofs.Blocks.{early, in_line, in_line_end}
-use mathlib.Core.List.{List}
-use mathlib.Core.Bool.{Bool, true, false}
-use mathlib.Core.Path.{◌≡◌, refl, sym, ap, ◌∙◌}
-use Prim.Native.Nat.{ℕ, ◌+◌, ◌-◌, ◌/◌, ◌<◌, ◌≤◌}
-use native.Mathlib.Omega.{arith}
-use borrow.Author.Rules.{rules}
+use Rattle.table.proofs.Blocks.{early}
+use mathlib.Core.Bool.{true}
+use mathlib.Core.Path.{◌≡◌}
+use Prim.Native.Nat.{ℕ, ◌-◌, ◌<◌, ◌≤◌}
 use Rattle.table.proofs.walk.start_in_line.Given as goal
 
 abbrev pub invariant-loop-k : goal.invariant-loop-k

@@ -1,10 +1,5 @@
 use Rattle.table.proofs.Blocks.{stopped, at_front, further}
-use Rattle.meaning.specs.Words.{node_at}
-use Rattle.meaning.specs.Graph.{fits}
-use mathlib.Core.List.{List}
-use mathlib.Core.Bool.{Bool, true, false}
-use mathlib.Core.Path.{◌≡◌, refl, sym, ap, ◌∙◌}
-use Prim.Native.Nat.{ℕ, ◌+◌, ◌-◌, ◌/◌, ◌<◌, ◌≤◌}
+use mathlib.Core.Path.{sym, ◌∙◌}
 use native.Mathlib.Omega.{arith}
 use borrow.Author.Rules.{rules}
 use Rattle.table.proofs.walk.stepped_back.Goals as goal
@@ -20,4 +15,3 @@ returns-else-matches c = stopped _ c.requires.1 _ _ _ c.requires.2 _ c.loop-k.in
 
 pub returns : goal.returns
 returns c = at_front _ c.requires.1 _ _ _ c.requires.2 _ c.loop-k.invariant.0 c.loop-k.invariant.1 c.loop-k-test.false
-

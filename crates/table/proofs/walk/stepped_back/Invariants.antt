@@ -1,12 +1,8 @@
-use Rattle.table.proofs.Blocks.{stopped, at_front, further}
 use Rattle.meaning.specs.Words.{node_at}
 use Rattle.meaning.specs.Graph.{fits}
-use mathlib.Core.List.{List}
-use mathlib.Core.Bool.{Bool, true, false}
-use mathlib.Core.Path.{◌≡◌, refl, sym, ap, ◌∙◌}
-use Prim.Native.Nat.{ℕ, ◌+◌, ◌-◌, ◌/◌, ◌<◌, ◌≤◌}
-use native.Mathlib.Omega.{arith}
-use borrow.Author.Rules.{rules}
+use mathlib.Core.Bool.{true}
+use mathlib.Core.Path.{◌≡◌}
+use Prim.Native.Nat.{ℕ, ◌+◌, ◌<◌, ◌≤◌}
 use Rattle.table.proofs.walk.stepped_back.Given as goal
 
 abbrev pub invariant-loop-k : goal.invariant-loop-k
