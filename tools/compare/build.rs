@@ -72,5 +72,5 @@ fn link_library(archive: &Path) {
 fn main() {
     println!("cargo:rerun-if-changed=build.rs");
     declare_egg(&named_or("EGG_SRC", "../../../shared/docs/src"));
-    link_library(&named_or("MULAVEDROP_LIB", "../../target/staticlib/libmulavedrop.a"));
+    link_library(&named_or("MULAVEDROP_LIB", "../../crates/mulavedrop/out/libmulavedrop.a"));
 }
