@@ -46,6 +46,7 @@ fn node_end(t: &[u32], l: Layout, j: usize) -> usize
 }
 
 // Record j has a node, and its range starts where the one before it ends.
+#[tactic(auto, using(crate::proofs::Ranges::filled, crate::proofs::Ranges::empty))]
 fn good_range_at(t: &[u32], l: Layout, j: usize) -> bool
     requires { Placed t.now l × (j < l.c) }
     ensures { result ≡ good_range_at t.now l j }

@@ -37,6 +37,7 @@ fn good_at(t: &[u32], l: Layout, i: usize) -> bool
 }
 
 // The k-th node of class j: by itself, its owner, and after the node before it.
+#[tactic(auto, using(crate::proofs::Members::broken, crate::proofs::Members::stranger, crate::proofs::Members::first, crate::proofs::Members::later, crate::proofs::Members::previous, crate::proofs::Members::within))]
 fn good_member_at(t: &[u32], l: Layout, j: usize, k: usize) -> bool
     requires { Placed t.now l × (j < l.c) × (k < count_at t.now l j) × (first_at t.now l j + count_at t.now l j ≤ l.n) × (all_below (good_member_at t.now l j) k ≡ true) }
     ensures { result ≡ good_member_at t.now l j k }

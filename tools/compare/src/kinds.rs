@@ -29,7 +29,7 @@ pub const KINDS: [Kind; 10] = [
     Kind { name: "patterns", round: patterns::round, weight: 1 },
     Kind { name: "searches", round: searches::lone, weight: 1 },
     Kind { name: "multis", round: searches::multi, weight: 1 },
-    Kind { name: "wide", round: searches::wide, weight: 20 },
+    Kind { name: "wide", round: searches::wide, weight: 100 },
     Kind { name: "apply", round: apply::round, weight: 1 },
     Kind { name: "maps", round: maps::round, weight: 1 },
     Kind { name: "rules", round: rules::round, weight: 1 },

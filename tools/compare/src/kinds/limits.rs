@@ -7,7 +7,7 @@ use super::rules::rule_case;
 use super::searches::search_case;
 use super::tables::check_case;
 use crate::make::rng::Rng;
-use crate::make::table::Plan;
+use crate::make::table::{wide, Plan};
 use crate::make::{limits, term};
 use crate::run::{Mismatch, Run};
 
@@ -43,19 +43,20 @@ pub fn round(rng: &mut Rng, run: &mut Run) -> Result<(), Mismatch> {
     for map in [&itself[..], &itself[1..]] {
         run.check(rng, map_case(&largest, &largest, map))?;
     }
-    let table = limits::every_arity().words();
-    for is_multi in [false, true] {
-        let all = if is_multi { limits::multis(rng) } else { limits::patterns(rng) };
-        for words in &all {
-            let case = program_at_its_length(rng, words.clone(), is_multi);
-            run.check(rng, case)?;
-            for class in [Some(0), None] {
-                let mut case = search_case(&table, words, is_multi, class, true);
-                case.buffer = rng.buffer(40);
+    for table in [wide(rng, 60).words(), limits::every_arity().words()] {
+        for is_multi in [false, true] {
+            let all = if is_multi { limits::multis(rng) } else { limits::patterns(rng) };
+            for words in &all {
+                let case = program_at_its_length(rng, words.clone(), is_multi);
                 run.check(rng, case)?;
+                for class in [Some(0), None] {
+                    let mut case = search_case(&table, words, is_multi, class, true);
+                    case.buffer = rng.buffer(40);
+                    run.check(rng, case)?;
+                }
+                let other = rng.pick(&all).clone();
+                run.check(rng, rule_case(words, is_multi, &other, is_multi))?;
             }
-            let other = rng.pick(&all).clone();
-            run.check(rng, rule_case(words, is_multi, &other, is_multi))?;
         }
     }
     Ok(())

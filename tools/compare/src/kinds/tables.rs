@@ -8,16 +8,16 @@ use crate::run::{Mismatch, Run};
 
 /// The words of a good table, small for the most part.
 pub fn any_table(rng: &mut Rng) -> Vec<u32> {
-    match rng.below(20) {
+    match rng.below(22) {
         0 => {
             let nodes = rng.between(1, 6);
             table::random(rng, 40, nodes).words()
         }
-        1 | 2 => table::dense(rng).words(),
-        3..=8 => {
+        1..=8 => {
             let steps = rng.between(1, 16);
             egraph::plan(&egraph::random(rng, steps)).words()
         }
+        20 | 21 => table::dense(rng).words(),
         _ => {
             let nodes = rng.between(1, 4);
             table::random(rng, 7, nodes).words()

@@ -9,12 +9,10 @@ const LIMITS: [u32; 14] = [8, 9, 64, 65, 256, 257, 512, 513, 65_535, 65_536, 65_
 pub fn damaged(rng: &mut Rng, words: &[u32]) -> Vec<u32> {
     let mut words = words.to_vec();
     let n = words.len();
-    match rng.below(40) {
+    match rng.below(22) {
         0 => words.truncate(rng.below(n + 1)),
         1 => words.truncate(n.saturating_sub(1)),
         2 => words.push(rng.word()),
-        8 => words.extend((0..rng.below(600)).map(|i| i as u32)),
-        9 => words = (0..rng.below(40)).map(|_| rng.word()).collect(),
         3 if n > 0 => {
             words.remove(rng.below(n));
         }
@@ -27,6 +25,8 @@ pub fn damaged(rng: &mut Rng, words: &[u32]) -> Vec<u32> {
             let record = rng.between(3, 4);
             exchange(rng, &mut words, record);
         }
+        20 => words.extend((0..rng.below(600)).map(|i| i as u32)),
+        21 => words = (0..rng.below(40)).map(|_| rng.word()).collect(),
         _ if n > 0 => {
             let at = rng.below(n);
             words[at] = changed(rng, words[at], n);
@@ -44,7 +44,7 @@ fn changed(rng: &mut Rng, word: u32, length: usize) -> u32 {
         4 => 0,
         5 => u32::MAX,
         6 => rng.below(12) as u32,
-        7 => *rng.pick(&LIMITS),
+        8 => *rng.pick(&LIMITS),
         _ => (length + rng.below(5)) as u32,
     }
 }
