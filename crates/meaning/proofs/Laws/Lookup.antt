@@ -1,4 +1,4 @@
--- A class's nodes, and what lookup finds: they agree in a well_formed graph. Assumes nothing.
+-- A class's nodes, and what lookup finds: they agree in a well-formed graph. Assumes nothing.
 use Rattle.std.specs.Prelude.{ℕ, ◌≡◌, refl, Bool, true, false, cond, eqb}
 use Rattle.std.proofs.Common.{sym, ap, arith, eqb-true, eq-eqb, ne_eqb}
 use mathlib.Core.List.{List, [], ◌∷◌, ◌++◌, flat_map}

@@ -75,14 +75,14 @@ module _ (w : List ℕ) where
   unfolding is_same
   is_same_lem i j s = and_both (eq-eqb _ _ s.kind) (and_both (eq-eqb _ _ s.number) (same_is _ _ s.children))
 
-  pub part_at : good_pattern_nodes w ≡ true → (i : ℕ) → i < word w 0 → good_part_at w i ≡ true
+  pub part_at_lem : good_pattern_nodes w ≡ true → (i : ℕ) → i < word w 0 → good_part_at w i ≡ true
   unfolding good_pattern_nodes good_parts
-  part_at h = all_at (good_part_at w) (word w 0) (and_left _ _ (and_left _ _ h))
+  part_at_lem h = all_at (good_part_at w) (word w 0) (and_left _ _ (and_left _ _ h))
 
   pub pattern_nodes : good_pattern_nodes w ≡ true → PatternNodes w
   unfolding good_pattern_nodes good_parts good_part_at good_below good_use is_used good_once is_new
   pattern_nodes h =
-      let at : (i : ℕ) → i < word w 0 → good_part_at w i ≡ true = part_at h in
+      let at : (i : ℕ) → i < word w 0 → good_part_at w i ≡ true = part_at_lem h in
       let rest = and_right _ _ h in
       record {
         kind = λ i b. leb-true _ _ (and_left _ _ (at i b));
