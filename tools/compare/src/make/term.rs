@@ -10,6 +10,15 @@ pub enum Term {
 }
 
 impl Term {
+    /// The term's occurrences.
+    #[allow(dead_code)]
+    pub fn occurrences(&self) -> usize {
+        match self {
+            Term::Variable(_) => 1,
+            Term::Operator(_, below) => 1 + below.iter().map(Term::occurrences).sum::<usize>(),
+        }
+    }
+
     /// The term's parts, each once, children before parents.
     fn parts<'a>(&'a self, found: &mut Vec<&'a Term>) {
         if !found.contains(&self) {
