@@ -1,62 +1,86 @@
+use arrayvec::ArrayVec;
 use std::io;
 use std::io::Write;
 
-// A line so far: its kind, how many words it has, and the number that is being read.
-#[derive(Clone, Copy)]
-pub struct Line {
-    pub kind: u8,
-    pub count: usize,
-    pub number: u64,
-    pub digits: bool,
+// What a line is, by its first byte.
+#[derive(Clone, Copy, PartialEq, Eq)]
+enum Kind {
+    Table,
+    Title,
+    Other,
 }
 
-// Puts the word at i, if there is room.
-fn put(words: &mut [u32], i: usize, v: u32) {
-    if i < words.len() {
-        words[i] = v;
+impl From<u8> for Kind {
+    fn from(b: u8) -> Self {
+        match b {
+            b't' => Kind::Table,
+            b'#' => Kind::Title,
+            _ => Kind::Other,
+        }
     }
+}
+
+// A line so far: what it is, its words, and the number that is being read. A line of more than 20,480 words keeps
+// one more, and has no answer.
+#[derive(Drop)]
+pub struct Line {
+    kind: Option<Kind>,
+    words: ArrayVec<u32, 20481>,
+    number: Option<u64>,
 }
 
 impl Line {
     pub fn new() -> Self {
         Line {
-            kind: 0,
-            count: 0,
-            number: 0,
-            digits: false,
+            kind: None,
+            words: ArrayVec::new(),
+            number: None,
         }
     }
 
-    // The line with the number that has been read, if any, as a word.
-    fn ended(mut self, words: &mut [u32]) -> Self {
-        if self.digits {
-            let at = self.count;
-            put(words, at, (self.number % 4294967296) as u32);
-            if at < 1048576 {
-                self.count = at + 1;
-            }
-            self.number = 0;
-            self.digits = false;
+    // Ends the number that is being read, if there is one: it is a word.
+    fn end_number(&mut self) {
+        if let Some(n) = self.number {
+            let _ = self.words.try_push((n % 4294967296) as u32);
+            self.number = None;
         }
-        self
     }
 
-    // The line after byte b. The bytes of a title are written out.
-    pub fn with<W: Write>(mut self, out: &mut W, words: &mut [u32], b: u8) -> io::Result<Self> {
-        if self.kind == 0 {
-            self.kind = b;
+    // Takes a byte into the line. Those of a title are written out as well.
+    fn take<W: Write>(&mut self, out: &mut W, b: u8) -> io::Result<()> {
+        if self.kind == None && b != 0 {
+            self.kind = Some(Kind::from(b));
         }
-        if self.kind == b'#' {
-            out.write_all(&[b])?;
-            return Ok(self);
+        if self.kind == Some(Kind::Title) {
+            return out.write_all(&[b]);
         }
-        if b'0' <= b {
-            if b <= b'9' {
-                self.number = (self.number % 4294967296) * 10 + ((b - b'0') as u64);
-                self.digits = true;
-                return Ok(self);
+        match b {
+            b'0'..=b'9' => {
+                let n = self.number.unwrap_or(0) % 4294967296;
+                self.number = Some(n * 10 + u64::from(b - b'0'));
             }
+            _ => self.end_number(),
         }
-        Ok(self.ended(words))
+        Ok(())
+    }
+
+    // The answer to the line.
+    fn answer<W: Write>(&self, out: &mut W) -> io::Result<()> {
+        if self.kind == Some(Kind::Table) && self.words.len() <= 20480 {
+            let number = meaning::number_of(checker::check(self.words.as_slice()));
+            writeln!(out, "{number}")?;
+        }
+        Ok(())
+    }
+
+    // Takes a byte. One that ends the line has it answered, and begins the next.
+    pub fn read<W: Write>(&mut self, out: &mut W, b: u8) -> io::Result<()> {
+        self.take(out, b)?;
+        if b == b'\n' {
+            self.answer(out)?;
+            self.kind = None;
+            self.words.clear();
+        }
+        Ok(())
     }
 }

@@ -1,14 +1,7 @@
 -- The pass over the find list: the records so far name the canonical ids so far. Assumes nothing.
-use Prim.Native.Nat.{ℕ, suc, ◌+◌, ◌-◌, ◌<◌, ◌≤◌}
-use mathlib.Core.Path.{◌≡◌, refl, sym, ap, ◌∙◌}
-use mathlib.Core.Bool.{Bool, true, false, cond}
-use mathlib.Core.List.{List, [], ◌∷◌, ◌++◌, append-nil}
-use lib.ListN.{length, get_or, length-append}
-use lib.Dec.{eqb}
+use Rattle.std.proofs.Common.{ℕ, suc, ◌+◌, ◌-◌, ◌<◌, ◌≤◌, ◌≡◌, refl, sym, ap, ◌∙◌, Bool, true, false, cond, List, [], ◌∷◌, ◌++◌, append-nil, length, get_or, length-append, eqb, lt-ltb, eq-eqb, ne_eqb, eqb-true, arith, zero-add}
 use lib.Seq.{get_or_at}
-use borrow.Author.Tests.{lt-ltb, eq-eqb, ne_eqb, eqb-true, eqb-false}
-use native.Mathlib.Omega.{arith}
-use native.Mathlib.Nat.{zero-add}
+use borrow.Author.Tests.{eqb-false}
 use Rattle.meaning.specs.declared.Layout.{Layout}
 use Rattle.meaning.specs.Tests.{and, same_list, same_true, same_is, not_true_false}
 use Rattle.meaning.specs.Ranges.{from, keep}

@@ -1,3 +1,6 @@
 pub mod Ids
 pub mod Ranges
 pub mod Members
+pub mod Entries
+pub mod Areas
+pub mod Whole

@@ -1,21 +1,22 @@
 -- A node of a class: by itself, by its owner, and after the node before it. Assumes nothing.
 use Rattle.meaning.proofs.Laws.Rules.{rises_back, rises_first}
 use Rattle.meaning.specs.Refusal.{good_node_at, good_member_at}
-use Rattle.meaning.specs.Words.{first_at, id_at, kid_at, arity_at, owner_at, node_at}
+use Rattle.meaning.specs.Laws.Joins.{joined_within}
+use Rattle.meaning.specs.Good.{ClassRule}
+use Rattle.meaning.specs.Words.{first_at, count_at, id_at, kid_at, arity_at, owner_at, node_at}
 use Rattle.meaning.specs.Graph.{less}
 use Rattle.meaning.specs.Tests.{and, all_below, and_left, and_right, and_fails_left, and_fails_right, all_at}
-use borrow.Author.Tests.{eq-eqb, ne_eqb, leb-true}
+use Rattle.std.proofs.Common.{eq-eqb, ne_eqb, leb-true, List, Bool, true, false, ◌≡◌, sym, ◌∙◌, ℕ, ◌+◌, ◌-◌, ◌<◌, ◌≤◌, arith}
 use Rattle.meaning.specs.declared.Layout.{Layout}
-use mathlib.Core.List.{List}
-use mathlib.Core.Bool.{Bool, true, false}
-use mathlib.Core.Path.{◌≡◌, sym, ◌∙◌}
-use Prim.Native.Nat.{ℕ, ◌+◌, ◌-◌, ◌≤◌}
-use native.Mathlib.Omega.{arith}
 
 -- a good node's children are in their area
 pub within : (t : List ℕ) (l : Layout) (i : ℕ) → good_node_at t l i ≡ true → kid_at t l i + arity_at t l i ≤ l.k
 unfolding good_node_at
 within t l i h = leb-true _ _ (and_right _ _ (and_right _ _ h))
+
+-- and a class's nodes are in theirs
+pub joined : (t : List ℕ) (l : Layout) → ClassRule t l → (j : ℕ) → j < l.c → first_at t l j + count_at t l j ≤ l.n
+joined t l r j h = joined_within r.joined j h
 
 module _ (t : List ℕ) (l : Layout) (j k a : ℕ) (e : a ≡ first_at t l j) where
   pub broken : (g : Bool) → g ≡ good_node_at t l (a + k) → g ≡ false → false ≡ good_member_at t l j k

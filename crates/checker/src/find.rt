@@ -1,43 +1,28 @@
 ghost use Rattle.std.specs.Prelude.{◌≡◌, ◌<◌};
-ghost use Rattle.meaning.specs.Good.{Placed};
 ghost use Rattle.meaning.specs.Refusal.{is_canonical, good_find_at, good_find};
 
-use meaning::Layout;
-use words::areas;
+use words::areas::Areas;
 
 // Whether x is a canonical id.
-pub fn canonical(t: &[u32], l: Layout, x: usize) -> bool
-    requires { Placed t.now l }
-    ensures { result ≡ is_canonical t.now l x }
+#[tactic(auto, using(meaning::proofs::Laws::Ands::ands), unfolding(meaning::specs::Refusal::is_canonical))]
+pub fn canonical(t: &Areas, x: usize) -> bool
+    ensures { result ≡ is_canonical t.now.words.now t.now.layout x }
 {
-    if x < l.i {
-        return areas::find_at(t, l, x) == x;
-    }
-    false
+    x < t.layout.i && t.find_at(x) == x
 }
 
 // The find rule at x.
-fn good_at(t: &[u32], l: Layout, x: usize) -> bool
-    requires { Placed t.now l × (x < l.i) }
-    ensures { result ≡ good_find_at t.now l x }
+#[tactic(auto, unfolding(meaning::specs::Refusal::good_find_at, meaning::specs::Refusal::is_canonical))]
+fn good_at(t: &Areas, x: usize) -> bool
+    requires { x < t.now.layout.i }
+    ensures { result ≡ good_find_at t.now.words.now t.now.layout x }
 {
-    let f = areas::find_at(t, l, x);
-    if f < l.i {
-        return areas::find_at(t, l, f) == f;
-    }
-    false
+    canonical(t, t.find_at(x))
 }
 
 // The find rule.
-pub fn good(t: &[u32], l: Layout) -> bool
-    requires { Placed t.now l }
-    ensures { result ≡ good_find t.now l }
+pub fn good(t: &Areas) -> bool
+    ensures { result ≡ good_find t.now.words.now t.now.layout }
 {
-    let n = l.i;
-    for x in 0..n {
-        if good_at(t, l, x) {} else {
-            return false;
-        }
-    }
-    true
+    (0..t.layout.i).all(|x| good_at(t, x))
 }

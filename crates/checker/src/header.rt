@@ -1,26 +1,17 @@
-ghost use Rattle.std.specs.Prelude.{◌≡◌, ◌≤◌, ◌<◌, length};
+ghost use Rattle.std.specs.Prelude.{◌≡◌, ◌≤◌};
 ghost use Rattle.meaning.specs.Words.{layout_of, laid};
 ghost use Rattle.meaning.specs.Good.{Limits};
 ghost use Rattle.meaning.specs.Refusal.{good_limits, good_shape};
 
 use meaning::Layout;
-use words::areas;
+use words::header::Header;
 
 // Whether the counts are within their limits.
-pub fn good_limits(t: &[u32]) -> bool
-    requires { 9 ≤ length t.now }
-    ensures { result ≡ good_limits t.now }
+#[tactic(auto, using(meaning::proofs::Laws::Ands::ands), unfolding(meaning::specs::Refusal::good_limits))]
+pub fn good_limits(h: &Header<9>) -> bool
+    ensures { result ≡ good_limits h.now.words.now }
 {
-    if 65536 < areas::at(t, 0) {
-        return false;
-    }
-    if 65536 < areas::at(t, 1) {
-        return false;
-    }
-    if 65536 < areas::at(t, 2) {
-        return false;
-    }
-    areas::at(t, 3) <= 262144
+    h.at(0) <= 65536 && h.at(1) <= 65536 && h.at(2) <= 65536 && h.at(3) <= 262144
 }
 
 // Where the areas of a table with these counts stand.
@@ -45,43 +36,24 @@ fn laid(i: usize, c: usize, n: usize, k: usize) -> Layout
     }
 }
 
-// The layout of an empty table, for where there is none.
-pub fn nowhere() -> Layout {
-    laid(0, 0, 0, 0)
-}
-
 // The layout that the counts ask for.
-pub fn layout(t: &[u32]) -> Layout
-    requires { (9 ≤ length t.now) × Limits t.now }
-    ensures { result ≡ layout_of t.now }
+pub fn layout(h: &Header<9>) -> Layout
+    requires { Limits h.now.words.now }
+    ensures { result ≡ layout_of h.now.words.now }
 {
-    laid(
-        areas::at(t, 0),
-        areas::at(t, 1),
-        areas::at(t, 2),
-        areas::at(t, 3),
-    )
+    laid(h.at(0), h.at(1), h.at(2), h.at(3))
 }
 
 // Whether the offsets and the length are those of the layout.
-pub fn good_shape(t: &[u32], l: Layout) -> bool
-    requires { (9 ≤ length t.now) × Limits t.now × (l ≡ layout_of t.now) }
-    ensures { result ≡ good_shape t.now }
+#[tactic(auto, using(meaning::proofs::Laws::Ands::ands), unfolding(meaning::specs::Refusal::good_shape))]
+pub fn good_shape(h: &Header<9>, l: Layout) -> bool
+    requires { Limits h.now.words.now × (l ≡ layout_of h.now.words.now) }
+    ensures { result ≡ good_shape h.now.words.now }
 {
-    if areas::at(t, 4) != l.find {
-        return false;
-    }
-    if areas::at(t, 5) != l.classes {
-        return false;
-    }
-    if areas::at(t, 6) != l.nodes {
-        return false;
-    }
-    if areas::at(t, 7) != l.children {
-        return false;
-    }
-    if areas::at(t, 8) != l.index {
-        return false;
-    }
-    t.len() == l.index + l.n
+    h.at(4) == l.find
+        && h.at(5) == l.classes
+        && h.at(6) == l.nodes
+        && h.at(7) == l.children
+        && h.at(8) == l.index
+        && h.words.len() == l.index + l.n
 }

@@ -1,34 +1,29 @@
 ghost use Rattle.std.specs.Prelude.{◌≡◌, true, ◌<◌};
 ghost use Rattle.meaning.specs.Tests.{all_below};
-ghost use Rattle.meaning.specs.Good.{Placed, NodeRule};
+ghost use Rattle.meaning.specs.Good.{NodeRule};
 ghost use Rattle.meaning.specs.Refusal.{good_index_at, good_index};
 
-use meaning::Layout;
-use words::{areas, key};
+use words::areas::Areas;
 
 // The entry at x names a node, whose key is after that of the entry before.
-fn good_at(t: &[u32], l: Layout, x: usize) -> bool
-    requires { Placed t.now l × NodeRule t.now l × (x < l.n) × (all_below (good_index_at t.now l) x ≡ true) }
-    ensures { result ≡ good_index_at t.now l x }
+#[tactic(auto, using(crate::proofs::Entries::within, crate::proofs::Entries::previous, crate::proofs::Entries::past, crate::proofs::Entries::first, crate::proofs::Entries::later))]
+fn good_at(t: &Areas, x: usize) -> bool
+    requires { NodeRule t.now.words.now t.now.layout × (x < t.now.layout.n) × (all_below (good_index_at t.now.words.now t.now.layout) x ≡ true) }
+    ensures { result ≡ good_index_at t.now.words.now t.now.layout x }
 {
-    let i = areas::index_at(t, l, x);
-    if i < l.n {
-        if x == 0 {
-            return true;
-        }
-        return key::node_before(t, l, areas::index_at(t, l, x - 1), i);
-    }
-    false
+    let i = t.index_at(x);
+    i < t.layout.n && (x == 0 || t.key_at(t.index_at(x - 1)).before(&t.key_at(i)))
 }
 
-// The index rule.
-pub fn good(t: &[u32], l: Layout) -> bool
-    requires { Placed t.now l × NodeRule t.now l }
-    ensures { result ≡ good_index t.now l }
+// The index rule. Each entry is tested where those before it have passed, which the closure of an `all`
+// would not be told.
+#[tactic(auto, using(meaning::proofs::Laws::Loops::loops), unfolding(meaning::specs::Refusal::good_index))]
+pub fn good(t: &Areas) -> bool
+    requires { NodeRule t.now.words.now t.now.layout }
+    ensures { result ≡ good_index t.now.words.now t.now.layout }
 {
-    let n = l.n;
-    for x in 0..n {
-        if good_at(t, l, x) {} else {
+    for x in 0..t.layout.n {
+        if !good_at(t, x) {
             return false;
         }
     }

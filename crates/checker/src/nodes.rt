@@ -1,68 +1,43 @@
 ghost use Rattle.std.specs.Prelude.{◌≡◌, true, ◌+◌, ◌<◌, ◌≤◌};
 ghost use Rattle.meaning.specs.Tests.{all_below};
-ghost use Rattle.meaning.specs.Ranges.{end_before};
-ghost use Rattle.meaning.specs.Words.{first_at, count_at, kid_at, arity_at};
-ghost use Rattle.meaning.specs.Good.{Placed, ClassRule};
+ghost use Rattle.meaning.specs.Words.{first_at, count_at};
+ghost use Rattle.meaning.specs.Good.{ClassRule};
 ghost use Rattle.meaning.specs.Refusal.{good_node_at, good_member_at, good_members_at, good_members, good_children, good_nodes};
 
 use crate::find;
-use meaning::Layout;
-use words::{areas, key};
-
-// Where the children before node i end: 0 before the first.
-fn kid_end(t: &[u32], l: Layout, i: usize) -> usize
-    requires { Placed t.now l × (i ≤ l.n) }
-    ensures { (result ≡ end_before (kid_at t.now l) (arity_at t.now l) i) × (result < 8589934592) }
-{
-    if i == 0 {
-        return 0;
-    }
-    areas::kid_at(t, l, i - 1) + areas::arity_at(t, l, i - 1)
-}
+use words::areas::Areas;
+use words::ranges::{NodeKids, Ranges};
 
 // Node i by itself: its arity, and its children's range.
-fn good_at(t: &[u32], l: Layout, i: usize) -> bool
-    requires { Placed t.now l × (i < l.n) }
-    ensures { result ≡ good_node_at t.now l i }
+#[tactic(auto, using(meaning::proofs::Laws::Ands::ands), unfolding(meaning::specs::Refusal::good_node_at))]
+fn good_at(t: &Areas, i: usize) -> bool
+    requires { i < t.now.layout.n }
+    ensures { result ≡ good_node_at t.now.words.now t.now.layout i }
 {
-    let arity = areas::arity_at(t, l, i);
-    if 8 < arity {
-        return false;
-    }
-    let kid = areas::kid_at(t, l, i);
-    if kid != kid_end(t, l, i) {
-        return false;
-    }
-    kid + arity <= l.k
+    let arity = t.arity_at(i);
+    let kid = t.kid_at(i);
+    arity <= 8 && kid == NodeKids(t).end_before(i) && kid + arity <= t.layout.k
 }
 
 // The k-th node of class j: by itself, its owner, and after the node before it.
-#[tactic(auto, using(crate::proofs::Members::broken, crate::proofs::Members::stranger, crate::proofs::Members::first, crate::proofs::Members::later, crate::proofs::Members::previous, crate::proofs::Members::within))]
-fn good_member_at(t: &[u32], l: Layout, j: usize, k: usize) -> bool
-    requires { Placed t.now l × (j < l.c) × (k < count_at t.now l j) × (first_at t.now l j + count_at t.now l j ≤ l.n) × (all_below (good_member_at t.now l j) k ≡ true) }
-    ensures { result ≡ good_member_at t.now l j k }
+#[tactic(auto, using(meaning::proofs::Laws::Ands::ands, crate::proofs::Members::within, crate::proofs::Members::previous, crate::proofs::Members::first, crate::proofs::Members::later, crate::proofs::Members::broken, crate::proofs::Members::stranger))]
+fn good_member_at(t: &Areas, j: usize, k: usize) -> bool
+    requires { (j < t.now.layout.c) × (k < count_at t.now.words.now t.now.layout j) × (first_at t.now.words.now t.now.layout j + count_at t.now.words.now t.now.layout j ≤ t.now.layout.n) × (all_below (good_member_at t.now.words.now t.now.layout j) k ≡ true) }
+    ensures { result ≡ good_member_at t.now.words.now t.now.layout j k }
 {
-    let i = areas::first_at(t, l, j) + k;
-    if good_at(t, l, i) {
-        if areas::owner_at(t, l, i) != areas::id_at(t, l, j) {
-            return false;
-        }
-        if k == 0 {
-            return true;
-        }
-        return key::node_before(t, l, i - 1, i);
-    }
-    false
+    let i = t.first_at(j) + k;
+    good_at(t, i) && t.owner_at(i) == t.id_at(j) && (k == 0 || t.key_at(i - 1).before(&t.key_at(i)))
 }
 
-// The nodes of class j.
-fn good_members_at(t: &[u32], l: Layout, j: usize) -> bool
-    requires { Placed t.now l × (j < l.c) × (first_at t.now l j + count_at t.now l j ≤ l.n) }
-    ensures { result ≡ good_members_at t.now l j }
+// The nodes of class j. Each is tested where those before it have passed, which the closure of an `all`
+// would not be told.
+#[tactic(auto, using(meaning::proofs::Laws::Loops::loops), unfolding(meaning::specs::Refusal::good_members_at))]
+fn good_members_at(t: &Areas, j: usize) -> bool
+    requires { (j < t.now.layout.c) × (first_at t.now.words.now t.now.layout j + count_at t.now.words.now t.now.layout j ≤ t.now.layout.n) }
+    ensures { result ≡ good_members_at t.now.words.now t.now.layout j }
 {
-    let n = areas::count_at(t, l, j);
-    for k in 0..n {
-        if good_member_at(t, l, j, k) {} else {
+    for k in 0..t.count_at(j) {
+        if !good_member_at(t, j, k) {
             return false;
         }
     }
@@ -70,40 +45,26 @@ fn good_members_at(t: &[u32], l: Layout, j: usize) -> bool
 }
 
 // The nodes, class by class, with their children's ranges from 0 to K.
-fn good_members(t: &[u32], l: Layout) -> bool
-    requires { Placed t.now l × ClassRule t.now l }
-    ensures { result ≡ good_members t.now l }
+fn good_members(t: &Areas) -> bool
+    requires { ClassRule t.now.words.now t.now.layout }
+    ensures { result ≡ good_members t.now.words.now t.now.layout }
 {
-    let c = l.c;
-    for j in 0..c {
-        if good_members_at(t, l, j) {} else {
-            return false;
-        }
-    }
-    kid_end(t, l, l.n) == l.k
+    (0..t.layout.c).all(|j| good_members_at(t, j))
+        && NodeKids(t).end_before(t.layout.n) == t.layout.k
 }
 
 // Whether each child is canonical.
-fn good_children(t: &[u32], l: Layout) -> bool
-    requires { Placed t.now l }
-    ensures { result ≡ good_children t.now l }
+fn good_children(t: &Areas) -> bool
+    ensures { result ≡ good_children t.now.words.now t.now.layout }
 {
-    let k = l.k;
-    for x in 0..k {
-        if find::canonical(t, l, areas::child_at(t, l, x)) {} else {
-            return false;
-        }
-    }
-    true
+    (0..t.layout.k).all(|x| find::canonical(t, t.child_at(x)))
 }
 
 // The node rule.
-pub fn good(t: &[u32], l: Layout) -> bool
-    requires { Placed t.now l × ClassRule t.now l }
-    ensures { result ≡ good_nodes t.now l }
+#[tactic(auto, using(meaning::proofs::Laws::Ands::ands), unfolding(meaning::specs::Refusal::good_nodes))]
+pub fn good(t: &Areas) -> bool
+    requires { ClassRule t.now.words.now t.now.layout }
+    ensures { result ≡ good_nodes t.now.words.now t.now.layout }
 {
-    if good_members(t, l) {
-        return good_children(t, l);
-    }
-    false
+    good_members(t) && good_children(t)
 }

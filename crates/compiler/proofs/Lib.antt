@@ -1,5 +1,4 @@
-pub mod Shifts
-pub mod Nodes
-pub mod Views
+pub mod Orders
+pub mod Weights
 pub mod Adding
-pub mod Taking
+pub mod Picking

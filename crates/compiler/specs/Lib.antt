@@ -1,3 +1,4 @@
-pub mod Arrays
+pub mod Lists
 pub mod Loaded
 pub mod Local
+pub mod Records

@@ -1,15 +1,17 @@
 -- What the compiler has so far, and what each of its functions makes of it. Assumes nothing.
-use Rattle.std.specs.Prelude.{ℕ, suc, ◌+◌, ◌^◌, ◌≤◌, ◌≡◌, List, [], ◌∷◌, ◌++◌, map, cond, not, eqb, length, take}
+use Rattle.std.specs.Prelude.{ℕ, suc, ◌+◌, ◌^◌, ◌≤◌, List, [], ◌∷◌, ◌++◌, cond, not, eqb, length, take, drop}
 use Rattle.std.specs.Int.Bits.{bit_or}
 use Rattle.meaning.specs.declared.Reg.{Reg}
-use Rattle.meaning.specs.Tests.{Opt, none, some, and}
-use Rattle.meaning.specs.Words.{word}
+use Rattle.std.specs.Prelude.{Option, None, Some}
+use Rattle.meaning.specs.Tests.{and}
 use Rattle.meaning.specs.PatternWords.{kind_at, number_at, degree_at, children_of}
 use Rattle.meaning.specs.Program.{bind, compare, lookat, reg, Held, held}
 use Rattle.meaning.specs.Compiler.{Item, item, reg_of}
 use Rattle.meaning.specs.Records.{alone, record_of}
 use Rattle.compiler.specs.declared.Compiler.{Compiler}
-use Rattle.compiler.specs.Arrays.{helds_of, free_count}
+use Rattle.compiler.specs.declared.TheConstants.Compiler.{MAX_INSTRUCTIONS, MAX_BOUND, MAX_WAITING}
+use Rattle.compiler.specs.declared.load.Weight.{Weight}
+use Rattle.compiler.specs.Lists.{codes_of, helds_of, items_of, free_count}
 
 pub record Local : Type 0 where
   pub code : List (List ℕ)
@@ -21,37 +23,28 @@ pub record Local : Type 0 where
 abbrev pub local : List (List ℕ) → List Held → List Item → ℕ → ℕ → Local
 local c v t k b = record { code = c; vars = v; items = t; next = k; bound = b }
 
--- a waiting item's record
-abbrev pub item_of : List ℕ → Item
-item_of x = item (word x 0) (reg (word x 1))
+-- nothing yet
+abbrev pub empty : Local
+empty = local [] [] [] 0 0
 
--- the first n waiting items
-unfoldable pub items_of : List (List ℕ) → ℕ → List Item
-items_of a n = map item_of (take n a)
-
--- counts and arrays as lists
-unfoldable pub view : Compiler → List (List ℕ) → List (List ℕ) → List (List ℕ) → Local
-view c code vars items = local (take c.code code) (helds_of vars c.vars) (items_of items c.items) c.next.0 c.bound
-
--- the arrays have their lengths, and the counts stay in them
-pub record Sized (c : Compiler) (code' vars' items' : List (List ℕ)) : Type 0 where
-  pub codes : 263 ≡ length code'
-  pub holds : 264 ≡ length vars'
-  pub waits : 264 ≡ length items'
-  pub code : c.code ≤ 263
-  pub vars : c.vars ≤ 264
-  pub items : c.items ≤ 264
+-- the compiler's lists, each as the definitions have it
+abbrev pub view : Compiler → Local
+view c = local (codes_of c.code.items) (helds_of c.vars.items) (items_of c.items.items) c.next.0 c.bound
 
 -- room for n more of each
 pub record Room (c : Compiler) (n : ℕ) : Type 0 where
-  pub code : c.code + n ≤ 263
-  pub vars : c.vars + n ≤ 264
-  pub items : c.items + n ≤ 264
+  pub code : length c.code.items + n ≤ MAX_INSTRUCTIONS
+  pub vars : length c.vars.items + n ≤ MAX_BOUND
+  pub items : length c.items.items + n ≤ MAX_WAITING
+
+-- without the waiting item at place b
+abbrev pub without : ℕ → Local → Local
+without b l = local l.code l.vars (take b l.items ++ drop (suc b) l.items) l.next l.bound
 
 -- a variable met again is compared, a new one bound
-unfoldable pub add_var : ℕ → ℕ → ℕ → Reg → Opt Reg → Local → Local
-add_var place node v r none l = local l.code (l.vars ++ (held v r ∷ [])) l.items l.next (bit_or l.bound (2 ^ node))
-add_var place node v r (some j) l = local (l.code ++ (record_of (alone place) l.next (compare 0 r j) ∷ [])) l.vars l.items l.next l.bound
+unfoldable pub add_var : ℕ → ℕ → ℕ → Reg → Option Reg → Local → Local
+add_var place node v r None l = local l.code (l.vars ++ (held v r ∷ [])) l.items l.next (bit_or l.bound (2 ^ node))
+add_var place node v r (Some j) l = local (l.code ++ (record_of (alone place) l.next (compare 0 r j) ∷ [])) l.vars l.items l.next l.bound
 
 -- a node to be met at a register: a variable now, an operator waits
 unfoldable pub add_todo : List ℕ → ℕ → ℕ → Reg → Local → Local
@@ -65,7 +58,7 @@ add_all w place k [] l = l
 add_all w place k (c ∷ cs) l = add_all w place (suc k) cs (add_todo w place c (reg k) l)
 
 -- an operator taken: looked up if it is ground and no leaf, else bound and its children met
-unfoldable pub take_item : List ℕ → ℕ → List ℕ → Item → Local → Local
-take_item w place frees x l = cond (and (eqb (free_count frees l.bound x.node) 0) (not (eqb (degree_at w x.node) 0)))
+unfoldable pub take_item : List ℕ → ℕ → List Weight → Item → Local → Local
+take_item w place weights x l = cond (and (eqb (free_count weights l.bound x.node) 0) (not (eqb (degree_at w x.node) 0)))
     (local (l.code ++ (record_of (alone place) l.next (lookat 0 x.node x.reg) ∷ [])) l.vars l.items l.next l.bound)
     (add_all w place l.next (children_of w x.node) (local (l.code ++ (record_of (alone place) l.next (bind 0 x.node (number_at w x.node) (degree_at w x.node) x.reg) ∷ [])) l.vars l.items (l.next + degree_at w x.node) l.bound))

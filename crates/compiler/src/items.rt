@@ -1,87 +1,75 @@
-ghost use Rattle.std.specs.Prelude.{◌≡◌, ℕ, ◌+◌, ◌-◌, ◌<◌, ◌≤◌, [], ◌∷◌, ◌++◌, length, take, drop, set, get_or};
+ghost use Rattle.std.specs.Prelude.{◌≡◌, ℕ, ◌<◌, length, get_or};
 ghost use Rattle.meaning.specs.Compiler.{best};
-ghost use Rattle.compiler.specs.Arrays.{free_count, goes_first};
+ghost use Rattle.compiler.specs.Lists.{no_item, free_count, goes_first};
+ghost use Rattle.compiler.specs.Local.{view, without};
 
-use crate::sets;
+use crate::load::Weights;
+use crate::{Compiler, sets};
 use meaning::Reg;
+use pattern::Pattern;
+use std::cmp::Reverse;
 
-// Waiting work items: pattern node, register.
-pub type Items = [[u32; 2]; 264];
-
-// Puts an item at the end of the n that wait.
-pub fn push(items: &mut Items, n: usize, node: u32, r: Reg)
-    requires { n < 264 }
-    ensures { items.new ≡ set items.old n (node ∷ r.0 ∷ []) }
-{
-    items[n] = [node, r.0];
+// A pattern node that waits, and the register of its class. The node is any number, and `n_free`,
+// `goes_first`, `next` and `pick` ask that it is a pattern's: an invariant here would ask it of
+// whoever makes an item.
+#[derive(Clone, Copy, Default)]
+pub struct Item {
+    pub node: u32,
+    pub reg: Reg,
 }
 
-// Takes the item at b out of the n that wait; the others keep their order.
-pub fn remove(items: &mut Items, n: usize, b: usize)
-    requires { (b < n) × (n ≤ 264) × (264 ≡ length items.old) }
-    ensures { (take (n - 1) items.new ≡ take b items.old ++ drop (b + 1) (take n items.old)) × (264 ≡ length items.new) }
-{
-    let mut i = b;
-    while i + 1 < n {
-        let x = items[i + 1];
-        items[i] = x;
-        i += 1;
+// `weights` is lent and no field of the compiler: as a field it would need a clause that it stays in
+// each function that changes the compiler.
+impl Compiler {
+    // How many of a node's free variables are not yet bound.
+    pub fn n_free(&self, weights: &Weights, node: u32) -> u32
+        requires { node < Pattern.MAX_NODES }
+        ensures { result ≡ free_count weights.now self.now.bound node }
+    {
+        sets::unbound(weights[node as usize].free, self.bound)
     }
-}
 
-// The free variables of a node that are not yet bound.
-pub fn n_free(free: &[u64; 64], bound: u64, node: u32) -> u32
-    requires { node < 64 }
-    ensures { result ≡ free_count free.now bound node }
-{
-    let i = node as usize;
-    sets::unbound(free[i], bound)
-}
+    // Whether item x is taken before item y: ground now, more variables not yet bound, smaller
+    // size, smaller node, smaller register.
+    #[tactic(auto, using(crate::proofs::Orders::by_keys))]
+    fn goes_first(&self, weights: &Weights, x: Item, y: Item) -> bool
+        requires { (x.node < Pattern.MAX_NODES) × (y.node < Pattern.MAX_NODES) }
+        ensures { result ≡ goes_first weights.now self.now.bound x y }
+    {
+        let key = |item: Item| {
+            let free = self.n_free(weights, item.node);
+            let size = weights[item.node as usize].size;
+            (free != 0, Reverse(free), size, item.node, item.reg.0)
+        };
+        key(x) < key(y)
+    }
 
-// Whether item x is taken before item y: ground now, more variables not yet bound, smaller size,
-// smaller node, smaller register.
-fn goes_first(free: &[u64; 64], size: &[u32; 64], bound: u64, x: [u32; 2], y: [u32; 2]) -> bool
-    requires { (get_or x 0 0 < 64) × (get_or y 0 0 < 64) }
-    ensures { result ≡ goes_first free.now size.now bound x y }
-{
-    let a = n_free(free, bound, x[0]);
-    let b = n_free(free, bound, y[0]);
-    if a != b {
-        if a == 0 {
-            return true;
+    // The place of the waiting item that goes before the others.
+    #[tactic(auto, unfolding(meaning::specs::Compiler::best))]
+    pub fn next(&self, weights: &Weights) -> usize
+        requires waiting { 0 < length self.now.items.items }
+        requires inside { (i : ℕ) → i < length self.now.items.items → (get_or self.now.items.items i no_item).node < Pattern.MAX_NODES }
+        ensures place { result ≡ best (goes_first weights.now self.now.bound) no_item self.now.items.items (length self.now.items.items) }
+        ensures inside { result < length self.now.items.items }
+    {
+        let items = self.items.as_slice();
+        let mut b = 0;
+        for i in 0..items.len() {
+            if self.goes_first(weights, items[i], items[b]) {
+                b = i;
+            }
         }
-        if b == 0 {
-            return false;
-        }
-        return b < a;
+        b
     }
-    let i = x[0] as usize;
-    let j = y[0] as usize;
-    let s = size[i];
-    let t = size[j];
-    if s != t {
-        return s < t;
-    }
-    if x[0] != y[0] {
-        return x[0] < y[0];
-    }
-    x[1] < y[1]
-}
 
-// The place of the item, among the n that wait, that goes before the others.
-pub fn next(items: &Items, n: usize, free: &[u64; 64], size: &[u32; 64], bound: u64) -> usize
-    requires { (0 < n) × (n ≤ 264) × ((i : ℕ) → i < n → get_or (get_or items.now i []) 0 0 < 64) }
-    ensures { result ≡ best (goes_first free.now size.now bound) [] items.now n }
-{
-    let mut b = 0;
-    let mut i = 0;
-    while i < n {
-        if goes_first(free, size, bound, items[i], items[b]) {
-            b = i;
-            i += 1;
-        } else {
-            i += 1;
-        }
+    // Takes out the waiting item that goes before the others; these keep their order.
+    #[tactic(auto, using(crate::proofs::Picking::taken_out))]
+    pub fn pick(&mut self, weights: &Weights) -> Item
+        requires waiting { 0 < length self.old.items.items }
+        requires inside { (i : ℕ) → i < length self.old.items.items → (get_or self.old.items.items i no_item).node < Pattern.MAX_NODES }
+        ensures { let b = best (goes_first weights.now self.old.bound) no_item self.old.items.items (length self.old.items.items) in (result ≡ get_or self.old.items.items b no_item) × (view self.new ≡ without b (view self.old)) }
+    {
+        let b = self.next(weights);
+        self.items.remove(b)
     }
-    b
 }

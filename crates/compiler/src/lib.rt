@@ -8,15 +8,22 @@ pub mod sets;
 pub mod todo;
 pub mod vars;
 
+ghost use Rattle.std.specs.Prelude.{◌≡◌};
+ghost use Rattle.compiler.specs.Local.{view, empty};
+
+use crate::instr::Record;
+use crate::items::Item;
+use crate::vars::Bound;
+use arrayvec::ArrayVec;
 use meaning::Reg;
 
-// What the compiler has so far: instructions, bound variables and waiting items in its arrays, the
+// What the compiler has so far: instructions, bound variables in binding order, waiting items, the
 // next register, and the set of the present pattern's variables that are bound.
-#[derive(Clone, Copy)]
+#[derive(Drop)]
 pub struct Compiler {
-    pub code: usize,
-    pub vars: usize,
-    pub items: usize,
+    pub code: ArrayVec<Record, { Compiler::MAX_INSTRUCTIONS }>,
+    pub vars: ArrayVec<Bound, { Compiler::MAX_BOUND }>,
+    pub items: ArrayVec<Item, { Compiler::MAX_WAITING }>,
     pub next: Reg,
     pub bound: u64,
 }
@@ -24,14 +31,20 @@ pub struct Compiler {
 impl Compiler {
     pub const MAX_INSTRUCTIONS: usize = 263;
 
+    pub const MAX_BOUND: usize = 264;
+
+    pub const MAX_WAITING: usize = 264;
+
     pub const MAX_REGISTERS: usize = 256;
 
     // The empty compiler.
-    pub fn new() -> Self {
+    pub fn new() -> Self
+        ensures { view result ≡ empty }
+    {
         Compiler {
-            code: 0,
-            vars: 0,
-            items: 0,
+            code: ArrayVec::new(),
+            vars: ArrayVec::new(),
+            items: ArrayVec::new(),
             next: Reg(0),
             bound: 0,
         }

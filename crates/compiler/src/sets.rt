@@ -1,3 +1,5 @@
+// Sets of a pattern's nodes, as bits. They are bare words, as the definitions have them: a newtype
+// would be no plainer.
 ghost use Rattle.std.specs.Prelude.{◌≡◌, ◌-◌, ◌^◌, ◌<◌};
 ghost use Rattle.std.specs.Int.Bits.{bit_and, bit_or};
 ghost use Rattle.std.specs.Int.Count.{ones};

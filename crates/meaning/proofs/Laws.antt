@@ -6,6 +6,9 @@ pub mod Numbering
 pub mod Lookup
 pub mod PatternRules
 pub mod Loops
+pub mod Chains
+pub mod Ands
+pub mod Slices
 pub mod PatternNumbering
 pub mod Tables
 pub mod Patterns

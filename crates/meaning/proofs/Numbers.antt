@@ -1,5 +1,5 @@
 -- Document 01's tables, and its numbers 11 and 14, by computation. Assumes nothing.
-use Rattle.std.specs.Prelude.{◌≡◌, refl, true}
+use Rattle.std.proofs.Common.{◌≡◌, refl, true}
 use Rattle.meaning.specs.Tests.{and, all_below, same_list}
 use Rattle.meaning.specs.Graph.{smaller, less_kids, less}
 use Rattle.meaning.specs.Ranges.{from, keep, end_from}

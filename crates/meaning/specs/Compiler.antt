@@ -1,7 +1,8 @@
 -- The compiler: one step at a time, its next item by document 01's order. Assumes nothing.
 use Rattle.std.specs.Prelude.{ℕ, zero, suc, ◌+◌, List, [], ◌∷◌, ◌++◌, Bool, true, false, cond, not, length, get_or, take, drop, eqb, ltb}
 use Rattle.meaning.specs.declared.Reg.{Reg}
-use Rattle.meaning.specs.Tests.{Opt, none, some, and}
+use Rattle.std.specs.Prelude.{Option, None, Some}
+use Rattle.meaning.specs.Tests.{and}
 use Rattle.meaning.specs.Graph.{smaller}
 use Rattle.meaning.specs.Pattern.{PNode, var, op, Pattern, node_of, root, free, size, occ}
 use Rattle.meaning.specs.Program.{Instr, bind, compare, lookat, scan, reg, Held, held}
@@ -46,13 +47,13 @@ abbrev pub step : List Instr → State → Step
 step is s = record { emits = is; to = s }
 
 -- the register of a bound variable
-unfoldable pub reg_of : List Held → ℕ → Opt Reg
-reg_of [] v = none
-reg_of (b ∷ B) v = cond (eqb b.var v) (some b.reg) (reg_of B v)
+unfoldable pub reg_of : List Held → ℕ → Option Reg
+reg_of [] v = None
+reg_of (b ∷ B) v = cond (eqb b.var v) (Some b.reg) (reg_of B v)
 
-unfoldable pub more_if_none : Opt Reg → ℕ → ℕ
-more_if_none none n = suc n
-more_if_none (some r) n = n
+unfoldable pub more_if_none : Option Reg → ℕ → ℕ
+more_if_none None n = suc n
+more_if_none (Some r) n = n
 
 unfoldable pub unbound_in : List Held → List ℕ → ℕ
 unbound_in B [] = 0
@@ -106,9 +107,9 @@ unfoldable pub is_leaf : List ℕ → Bool
 is_leaf [] = true
 is_leaf (c ∷ cs) = false
 
-unfoldable pub met_var : ℕ → Reg → Opt Reg → List Root → List Item → List Item → List Held → ℕ → Step
-met_var v r none R q t B k = step [] (state R q t (B ++ (held v r ∷ [])) k)
-met_var v r (some j) R q t B k = step (compare (length R) r j ∷ []) (state R q t B k)
+unfoldable pub met_var : ℕ → Reg → Option Reg → List Root → List Item → List Item → List Held → ℕ → Step
+met_var v r None R q t B k = step [] (state R q t (B ++ (held v r ∷ [])) k)
+met_var v r (Some j) R q t B k = step (compare (length R) r j ∷ []) (state R q t B k)
 
 -- a child is met: a variable binds or compares, an operator waits
 unfoldable pub met : PNode → Item → List Root → List Item → List Item → List Held → ℕ → Step
@@ -123,9 +124,9 @@ taken p (op o cs) x R t B k = cond (and (is_ground p B x.node) (not (is_leaf cs)
     (step (bind (length R) x.node o (length cs) x.reg ∷ []) (state R (number k cs) t B (k + length cs)))
 
 -- a binder is bound right after its root is met
-unfoldable pub bind_once : ℕ → Reg → Opt Reg → List Held → List Held
-bind_once v r none B = B ++ (held v r ∷ [])
-bind_once v r (some j) B = B
+unfoldable pub bind_once : ℕ → Reg → Option Reg → List Held → List Held
+bind_once v r None B = B ++ (held v r ∷ [])
+bind_once v r (Some j) B = B
 
 unfoldable pub entered : ℕ → Reg → Step → Step
 entered v r m = step m.emits (state m.to.roots m.to.meet m.to.todo (bind_once v r (reg_of m.to.binds v) m.to.binds) m.to.next)
@@ -137,9 +138,9 @@ enter p v q R B k = entered v (reg k) (met (node_of p q.top) (item q.top (reg k)
 unfoldable pub after : List Instr → Step → Step
 after is t = step (is ++ t.emits) t.to
 
-unfoldable pub joined : Pattern → ℕ → Opt Reg → Root → List Root → List Held → ℕ → Step
-joined p v (some j) q R B k = step [] (state R (item q.top j ∷ []) [] B k)
-joined p v none q R B k = after (scan (length R) ∷ []) (enter p v q R B k)
+unfoldable pub joined : Pattern → ℕ → Option Reg → Root → List Root → List Held → ℕ → Step
+joined p v (Some j) q R B k = step [] (state R (item q.top j ∷ []) [] B k)
+joined p v None q R B k = after (scan (length R) ∷ []) (enter p v q R B k)
 
 -- the next pattern: at its binder's register, or after a Scan
 unfoldable pub rooted : Pattern → PNode → Root → List Root → List Held → ℕ → Step

@@ -32,6 +32,14 @@ module _ (w : List ℕ) where
     pub used : (i : ℕ) → suc i < word w 0 → (x : ℕ) × (x < word w 1) × (child_of w x ≡ i)
     pub once : (i j : ℕ) → i < j → j < word w 0 → Same i j → ⊥
 
+  -- of the node rule, what a walk from the children up needs
+  pub record Downward : Type 0 where
+    pub kind : (i : ℕ) → i < word w 0 → kind_at w i ≤ 1
+    pub leaf : (i : ℕ) → i < word w 0 → kind_at w i ≡ 0 → degree_at w i ≡ 0
+    pub arity : (i : ℕ) → i < word w 0 → degree_at w i ≤ 8
+    pub joined : Joined (start_at w) (degree_at w) (word w 0) (word w 1)
+    pub below : (i x : ℕ) → i < word w 0 → x < degree_at w i → child_of w (start_at w i + x) < i
+
   pub record GoodPattern : Type 0 where
     pub header : 4 ≤ length w
     pub limits : PatternLimits

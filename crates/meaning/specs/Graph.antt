@@ -2,7 +2,8 @@
 use Rattle.std.specs.Prelude.{ℕ, suc, ◌<◌, ◌≡◌, Bool, true, false, cond, eqb, ltb, length}
 use mathlib.Core.List.{List, [], ◌∷◌, map, flat_map}
 use mathlib.Core.List.{Memᴰ as Mem}
-use Rattle.meaning.specs.Tests.{Opt, none, some, and, same_list}
+use Rattle.std.specs.Prelude.{Option, None, Some}
+use Rattle.meaning.specs.Tests.{and, same_list}
 use Rattle.meaning.specs.Lists.{All, NoDup, Ascends}
 
 -- an operator and its children's classes
@@ -43,9 +44,9 @@ has_key o ks [] = false
 has_key o ks (n ∷ l) = cond (is_key o ks n) true (has_key o ks l)
 
 -- the class of the one node o(ks), or nothing
-unfoldable pub lookup : Graph → ℕ → List ℕ → Opt ℕ
-lookup [] o ks = none
-lookup (c ∷ g) o ks = cond (has_key o ks c.nodes) (some c.id) (lookup g o ks)
+unfoldable pub lookup : Graph → ℕ → List ℕ → Option ℕ
+lookup [] o ks = None
+lookup (c ∷ g) o ks = cond (has_key o ks c.nodes) (Some c.id) (lookup g o ks)
 
 -- the nodes of the class with the id c
 unfoldable pub nodes_of : Graph → ℕ → List Node
@@ -59,14 +60,14 @@ ids g = map (λ c. c.id) g
 unfoldable pub all_nodes : Graph → List Node
 all_nodes g = flat_map (λ c. c.nodes) g
 
-unfoldable pub next : Opt ℕ → Opt ℕ
-next none = none
-next (some n) = some (suc n)
+unfoldable pub next : Option ℕ → Option ℕ
+next None = None
+next (Some n) = Some (suc n)
 
 -- the number of the first node o(ks) of the list, or nothing
-unfoldable pub place_in : ℕ → List ℕ → List Node → Opt ℕ
-place_in o ks [] = none
-place_in o ks (n ∷ l) = cond (is_key o ks n) (some 0) (next (place_in o ks l))
+unfoldable pub place_in : ℕ → List ℕ → List Node → Option ℕ
+place_in o ks [] = None
+place_in o ks (n ∷ l) = cond (is_key o ks n) (Some 0) (next (place_in o ks l))
 
 -- the node has the operator and the arity
 unfoldable pub fits : ℕ → ℕ → Node → Bool

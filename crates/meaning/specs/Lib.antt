@@ -5,6 +5,7 @@ pub mod Ranges
 pub mod Graph
 pub mod Words
 pub mod Good
+pub mod Refused
 pub mod Refusal
 pub mod Pattern
 pub mod PatternWords

@@ -1,11 +1,6 @@
 -- Tests that compute, and the facts that they stand for. Assumes nothing.
-use Rattle.std.specs.Prelude.{ℕ, zero, suc, ◌+◌, ◌<◌, ◌≡◌, refl, List, [], ◌∷◌, Bool, true, false, eqb}
+use Rattle.std.specs.Prelude.{ℕ, zero, suc, ◌+◌, ◌<◌, ◌≡◌, refl, List, [], ◌∷◌, Bool, true, false, eqb, Option, None, Some}
 use Rattle.std.proofs.Common.{sym, ap, ◌∙◌, ⊎_elim, add-one, arith, eq-or-lt_of_le, le_of_suc-le-suc, eqb-true, eq-eqb}
-
--- something, or nothing
-pub data Opt (A : Type 0) : Type 0 where
-  none : Opt A
-  some : A → Opt A
 
 unfoldable pub and : Bool → Bool → Bool
 and true b = b
@@ -96,15 +91,15 @@ pub same_is : (x y : List ℕ) → x ≡ y → same_list x y ≡ true
 same_is x y e = rw e (same_refl y)
 
 -- the answer is the class c
-unfoldable pub is_class : Opt ℕ → ℕ → Bool
-is_class none c = false
-is_class (some d) c = eqb d c
+unfoldable pub is_class : Option ℕ → ℕ → Bool
+is_class None c = false
+is_class (Some d) c = eqb d c
 
-pub class_true : (o : Opt ℕ) (c : ℕ) → is_class o c ≡ true → o ≡ some c
+pub class_true : (o : Option ℕ) (c : ℕ) → is_class o c ≡ true → o ≡ Some c
 unfolding is_class
-class_true none c h = cc
-class_true (some d) c h = ap some (eqb-true d c h)
+class_true None c h = cc
+class_true (Some d) c h = ap Some (eqb-true d c h)
 
-pub class_is : (o : Opt ℕ) (c : ℕ) → o ≡ some c → is_class o c ≡ true
+pub class_is : (o : Option ℕ) (c : ℕ) → o ≡ Some c → is_class o c ≡ true
 unfolding is_class
 class_is o c e = rw e (eq-eqb c c refl)

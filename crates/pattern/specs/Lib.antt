@@ -1,2 +1,4 @@
 pub mod Laid
+pub mod Kinds
 pub mod Counts
+pub mod Opened

@@ -1,46 +1,46 @@
-ghost use Rattle.std.specs.Prelude.{◌≡◌, ◌≤◌, length};
+ghost use Rattle.std.specs.Prelude.{◌≡◌};
 ghost use Rattle.meaning.specs.GoodPattern.{PatternLimits};
 ghost use Rattle.meaning.specs.PatternRefusal.{good_pattern_limits, good_pattern_shape};
 ghost use Rattle.pattern.specs.Laid.{Counted};
 
 use crate::Pattern;
-use words::areas;
+use words::header::Header;
 
-// Whether the counts are within their limits: at least one node.
-pub fn good_limits(w: &[u32]) -> bool
-    requires { 4 ≤ length w.now }
-    ensures { result ≡ good_pattern_limits w.now }
-{
-    if areas::at(w, 0) < 1 {
-        return false;
-    }
-    if Pattern::MAX_NODES < areas::at(w, 0) {
-        return false;
-    }
-    areas::at(w, 1) <= Pattern::MAX_CHILDREN
+// A pattern's counts, read once: nodes and children.
+#[derive(Clone, Copy)]
+pub struct Counts {
+    pub n: usize,
+    pub k: usize,
 }
 
-// The counts.
-pub fn counts(w: &[u32]) -> Pattern
-    requires { 4 ≤ length w.now }
-    ensures { Counted w.now result }
-{
-    Pattern {
-        n: areas::at(w, 0),
-        k: areas::at(w, 1),
+impl Counts {
+    // The counts of the words.
+    pub fn of(header: &Header<4>) -> Self
+        ensures { Counted header.now.words.now result }
+    {
+        Counts {
+            n: header.at(0),
+            k: header.at(1),
+        }
     }
+}
+
+// Whether the counts are within their limits: at least one node.
+#[tactic(auto, unfolding(meaning::specs::PatternRefusal::good_pattern_limits, meaning::specs::Tests::and))]
+pub fn good_limits(header: &Header<4>) -> bool
+    ensures { result ≡ good_pattern_limits header.now.words.now }
+{
+    let n = header.at(0);
+    1 <= n && n <= Pattern::MAX_NODES && header.at(1) <= Pattern::MAX_CHILDREN
 }
 
 // Whether the offsets and the length are those that the counts ask for.
-pub fn good_shape(w: &[u32], p: Pattern) -> bool
-    requires { (4 ≤ length w.now) × PatternLimits w.now × Counted w.now p }
-    ensures { result ≡ good_pattern_shape w.now }
+#[tactic(auto, unfolding(meaning::specs::PatternRefusal::good_pattern_shape, meaning::specs::Tests::and))]
+pub fn good_shape(header: &Header<4>, counts: Counts) -> bool
+    requires { PatternLimits header.now.words.now × Counted header.now.words.now counts }
+    ensures { result ≡ good_pattern_shape header.now.words.now }
 {
-    if areas::at(w, 2) != 4 {
-        return false;
-    }
-    if areas::at(w, 3) != 4 + 4 * p.n {
-        return false;
-    }
-    w.len() == 4 + 4 * p.n + p.k
+    header.at(2) == 4
+        && header.at(3) == 4 + 4 * counts.n
+        && header.words.len() == 4 + 4 * counts.n + counts.k
 }

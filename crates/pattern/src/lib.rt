@@ -1,8 +1,9 @@
 #![tactic(auto)]
-// Patterns and multipatterns: any words to document 01's number, in its order, and the words of a
-// good one.
+// Patterns: any words give a good pattern, or why they are refused, in document 01's order.
+pub mod each;
+pub mod good;
 pub mod header;
-pub mod nodes;
+pub mod kind;
 pub mod occurrences;
 pub mod once;
 pub mod parts;
@@ -10,81 +11,58 @@ pub mod used;
 
 ghost use Rattle.std.specs.Prelude.{◌≡◌};
 ghost use Rattle.meaning.specs.PatternRefusal.{good_pattern_nodes};
-ghost use Rattle.pattern.specs.Laid.{Laid, Opened};
+ghost use Rattle.pattern.specs.Opened.{Opened};
 
-// A pattern's counts, read once: nodes and children.
+pub use good::Pattern;
+pub use header::Counts;
+pub use kind::{Kind, UnknownKind};
+use meaning::Refusal;
+pub use once::Nodes;
+pub use parts::Parts;
+use words::header::Header;
+
+// A good pattern with its occurrences.
 #[derive(Clone, Copy)]
-pub struct Pattern {
-    pub n: usize,
-    pub k: usize,
-}
-
-impl Pattern {
-    pub const MAX_NODES: usize = 64;
-
-    pub const MAX_CHILDREN: usize = 512;
-
-    pub const MAX_ARITY: usize = 8;
-
-    pub const MAX_OCCURRENCES: u32 = 256;
-}
-
-// A pattern's number, and its counts and occurrences if that is 0.
-#[derive(Clone, Copy)]
-pub struct Checked {
-    pub number: u32,
-    pub pattern: Pattern,
+pub struct Checked<'a> {
+    pub pattern: Pattern<'a>,
     pub occurrences: u32,
 }
 
 // The node rule.
-fn good_nodes(w: &[u32], p: Pattern) -> bool
-    requires { Laid w.now p }
-    ensures { result ≡ good_pattern_nodes w.now }
+#[tactic(auto, unfolding(meaning::specs::PatternRefusal::good_pattern_nodes, meaning::specs::Tests::and))]
+fn good_nodes(parts: &Parts) -> bool
+    ensures { result ≡ good_pattern_nodes parts.now.words.now }
 {
-    if parts::good(w, p) {
-        if used::good(w, p) {
-            return once::good(w, p);
-        }
-    }
-    false
+    parts.good_each() && parts.good_use() && Nodes { parts: *parts }.good_once()
 }
 
-// The answer to words that are no good pattern.
-fn refused(number: u32) -> Checked
-    ensures { result.number ≡ number }
-{
-    Checked {
-        number,
-        pattern: Pattern { n: 0, k: 0 },
-        occurrences: 0,
-    }
-}
-
-// The number of any words as a pattern, and the counts and occurrences of a good one.
-pub fn check(w: &[u32]) -> Checked
+// Any words as a pattern: why they are refused, by document 01's number, or the good pattern.
+#[tactic(auto, using(meaning::proofs::Laws::PatternRules::pattern_limits), unfolding(meaning::specs::PatternRefusal::pattern_refusal))]
+pub fn check(w: &[u32]) -> Result<Checked<'_>, Refusal>
     ensures { Opened w.now result }
 {
-    if w.len() < 4 {
-        return refused(7);
+    let header = Header::<4>::of(w).ok_or(Refusal::PatternShape)?;
+    if !header::good_limits(&header) {
+        return Err(Refusal::PatternLimits);
     }
-    if header::good_limits(w) {
-        let p = header::counts(w);
-        if header::good_shape(w, p) {
-            if good_nodes(w, p) {
-                let occurrences = occurrences::count(w, p);
-                if occurrences <= Pattern::MAX_OCCURRENCES {
-                    return Checked {
-                        number: 0,
-                        pattern: p,
-                        occurrences,
-                    };
-                }
-                return refused(8);
-            }
-            return refused(9);
-        }
-        return refused(7);
+    let counts = Counts::of(&header);
+    if !header::good_shape(&header, counts) {
+        return Err(Refusal::PatternShape);
     }
-    refused(8)
+    let parts = Parts {
+        words: header.words,
+        counts,
+    };
+    if !good_nodes(&parts) {
+        return Err(Refusal::PatternNodes);
+    }
+    let pattern = Pattern { parts };
+    let occurrences = pattern.occurrences();
+    if Pattern::MAX_OCCURRENCES < occurrences {
+        return Err(Refusal::PatternLimits);
+    }
+    Ok(Checked {
+        pattern,
+        occurrences,
+    })
 }

@@ -1,79 +1,94 @@
 ghost use Rattle.std.specs.Prelude.{◌≡◌, ◌+◌, ◌<◌, ◌≤◌};
-ghost use Rattle.meaning.specs.Ranges.{end_before};
-ghost use Rattle.meaning.specs.PatternWords.{degree_at, start_at};
-ghost use Rattle.meaning.specs.PatternRefusal.{good_below, good_part_at, good_parts};
-ghost use Rattle.pattern.specs.Laid.{Laid, good_arity};
+ghost use Rattle.meaning.specs.PatternWords.{part_word, kind_at, number_at, degree_at, start_at, child_of, children_of};
+ghost use Rattle.pattern.specs.Laid.{Laid};
 
-use crate::{Pattern, nodes};
+use crate::Counts;
+use words::areas;
+use words::ranges::Ranges;
 
-// Where the children before node i end: 0 before the first.
-fn end_before(w: &[u32], p: Pattern, i: usize) -> usize
-    requires { Laid w.now p × (i ≤ p.n) }
-    ensures { (result ≡ end_before (start_at w.now) (degree_at w.now) i) × (result < 8589934592) }
-{
-    if i == 0 {
-        return 0;
-    }
-    nodes::start_at(w, p, i - 1) + nodes::degree_at(w, p, i - 1)
+// A pattern's words with its counts, which say where the node records and the children stand.
+#[derive(Clone, Copy)]
+pub struct Parts<'a> {
+    pub words: &'a [u32],
+    pub counts: Counts,
+    pub ghost laid: { Laid words.now counts },
 }
 
-// Whether a node of this kind may have this arity: a variable 0, an operator at most 8.
-fn good_arity(kind: usize, arity: usize) -> bool
-    ensures { result ≡ good_arity kind arity }
-{
-    if kind == 0 {
-        return arity == 0;
+impl<'a> Parts<'a> {
+    // Word f of node i: what the reads of its fields below share. Each field keeps its name, since a caller
+    // that gave f itself would be no plainer.
+    fn part_word(&self, i: usize, f: usize) -> usize
+        requires { (i < self.now.counts.n) × (f < 4) }
+        ensures { (result ≡ part_word self.now.words.now i f) × (result < 4294967296) }
+    {
+        areas::at(self.words, 4 + 4 * i + f)
     }
-    if kind == 1 {
-        return arity <= Pattern::MAX_ARITY;
+
+    // The kind of node i: 0 for a variable, 1 for an operator.
+    pub fn kind_at(&self, i: usize) -> usize
+        requires { i < self.now.counts.n }
+        ensures { (result ≡ kind_at self.now.words.now i) × (result < 4294967296) }
+    {
+        self.part_word(i, 0)
     }
-    false
+
+    // The variable or the operator of node i.
+    pub fn number_at(&self, i: usize) -> usize
+        requires { i < self.now.counts.n }
+        ensures { (result ≡ number_at self.now.words.now i) × (result < 4294967296) }
+    {
+        self.part_word(i, 1)
+    }
+
+    // The arity of node i.
+    pub fn degree_at(&self, i: usize) -> usize
+        requires { i < self.now.counts.n }
+        ensures { (result ≡ degree_at self.now.words.now i) × (result < 4294967296) }
+    {
+        self.part_word(i, 2)
+    }
+
+    // The place of node i's first child.
+    pub fn start_at(&self, i: usize) -> usize
+        requires { i < self.now.counts.n }
+        ensures { (result ≡ start_at self.now.words.now i) × (result < 4294967296) }
+    {
+        self.part_word(i, 3)
+    }
+
+    // The child at place x of the children area.
+    pub fn child_of(&self, x: usize) -> usize
+        requires { x < self.now.counts.k }
+        ensures { (result ≡ child_of self.now.words.now x) × (result < 4294967296) }
+    {
+        areas::at(self.words, 4 + 4 * self.counts.n + x)
+    }
+
+    // The children of node i: that part of the lent pattern, uncopied. A table's `Areas::children` cuts
+    // another area; one function for both would share the slice expression alone, and be no plainer.
+    pub fn children(&self, i: usize) -> &'a [u32]
+        requires { (i < self.now.counts.n) × (start_at self.now.words.now i + degree_at self.now.words.now i ≤ self.now.counts.k) }
+        ensures { result.now ≡ children_of self.now.words.now i }
+    {
+        let a = 4 + 4 * self.counts.n + self.start_at(i);
+        let e = a + self.degree_at(i);
+        &self.words[a..e]
+    }
 }
 
-// Whether each child of node i is below it.
-fn good_below(w: &[u32], p: Pattern, i: usize) -> bool
-    requires { Laid w.now p × (i < p.n) × (start_at w.now i + degree_at w.now i ≤ p.k) }
-    ensures { result ≡ good_below w.now i }
-{
-    let first = nodes::start_at(w, p, i);
-    let n = nodes::degree_at(w, p, i);
-    for x in 0..n {
-        if nodes::child_of(w, p, first + x) < i {} else {
-            return false;
-        }
-    }
-    true
-}
+// Each node's children.
+impl Ranges for Parts<'_> {
+    ghost start = { λ p. start_at p.words.now };
 
-// Node i by itself: its kind, its arity, its children's range and numbers.
-fn good_at(w: &[u32], p: Pattern, i: usize) -> bool
-    requires { Laid w.now p × (i < p.n) }
-    ensures { result ≡ good_part_at w.now i }
-{
-    let arity = nodes::degree_at(w, p, i);
-    if good_arity(nodes::kind_at(w, p, i), arity) {
-        let first = nodes::start_at(w, p, i);
-        if first != end_before(w, p, i) {
-            return false;
-        }
-        if p.k < first + arity {
-            return false;
-        }
-        return good_below(w, p, i);
-    }
-    false
-}
+    ghost count = { λ p. degree_at p.words.now };
 
-// Each node by itself, with the children's ranges from 0 to k.
-pub fn good(w: &[u32], p: Pattern) -> bool
-    requires { Laid w.now p }
-    ensures { result ≡ good_parts w.now }
-{
-    let n = p.n;
-    for i in 0..n {
-        if good_at(w, p, i) {} else {
-            return false;
-        }
+    ghost number = { λ p. p.counts.n };
+
+    fn start(&self, i: usize) -> usize {
+        self.start_at(i)
     }
-    end_before(w, p, n) == p.k
+
+    fn count(&self, i: usize) -> usize {
+        self.degree_at(i)
+    }
 }

@@ -1,14 +1,10 @@
 -- A class's nodes as a run of node numbers, and where an operator's nodes start in it. Assumes nothing.
-use Rattle.std.specs.Prelude.{ℕ, suc, ◌+◌, ◌<◌, ◌≤◌, ◌≡◌, Bool, true, List, map, ltb}
+use Rattle.std.specs.Prelude.{ℕ, suc, ◌+◌, ◌<◌, ◌≤◌, ◌≡◌, true, List, map}
 use Rattle.meaning.specs.declared.Layout.{Layout}
 use Rattle.meaning.specs.Ranges.{from, leading}
 use Rattle.meaning.specs.Graph.{less, fits, before_block, nodes_of}
-use Rattle.meaning.specs.Words.{id_at, node_at, graph_at}
+use Rattle.meaning.specs.Words.{node_at, graph_at}
 use Rattle.table.specs.declared.class.Span.{Span}
-
--- class record j has an id below c
-unfoldable pub id_below : List ℕ → Layout → ℕ → ℕ → Bool
-id_below t l c j = ltb (id_at t l j) c
 
 -- a run of the table's nodes that rise by key
 pub record Rising (t : List ℕ) (l : Layout) (s : Span) : Type 0 where

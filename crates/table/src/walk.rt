@@ -1,102 +1,89 @@
-ghost use Rattle.std.specs.Prelude.{◌≡◌, true, ℕ, ◌+◌, ◌<◌, ◌≤◌};
-ghost use Rattle.meaning.specs.Graph.{fits, before_block};
+ghost use Rattle.std.specs.Prelude.{◌≡◌, ◌<◌};
+ghost use Rattle.meaning.specs.Graph.{before_block};
 ghost use Rattle.meaning.specs.Words.{node_at};
-ghost use Rattle.meaning.specs.Good.{Sound};
-ghost use Rattle.table.specs.Spans.{Rising, Met, block_start};
+ghost use Rattle.table.specs.Spans.{Rising, Spans};
 
+use crate::checked::Table;
 use crate::class::Span;
-use meaning::Layout;
-use words::areas;
+use crate::shape::Shape;
+use meaning::Id;
+use words::bisect;
 
-// Whether node i has operator o and arity a.
-pub fn matches(t: &[u32], l: Layout, i: usize, o: usize, a: usize) -> bool
-    requires { Sound t.now l × (i < l.n) }
-    ensures { result ≡ fits o a (node_at t.now l i) }
-{
-    if areas::op_at(t, l, i) == o {
-        return areas::arity_at(t, l, i) == a;
-    }
-    false
+// Nodes of a table that rise by key, as those of a class do.
+#[derive(Clone, Copy)]
+pub struct Run<'t, 'a> {
+    pub table: &'t Table<'a>,
+    pub span: Span,
+    pub ghost rising: { Rising table.now.areas.words.now table.now.areas.layout span },
 }
 
-// Whether node i comes before the nodes with operator o and arity a.
-fn before_block(t: &[u32], l: Layout, i: usize, o: usize, a: usize) -> bool
-    requires { Sound t.now l × (i < l.n) }
-    ensures { result ≡ before_block o a (node_at t.now l i) }
-{
-    let op = areas::op_at(t, l, i);
-    if op < o {
-        return true;
-    }
-    if o < op {
-        return false;
-    }
-    areas::arity_at(t, l, i) < a
-}
-
-// The place of the first of a class's nodes with operator o and arity a, or where it would stand,
-// in line from the first node.
-fn start_in_line(t: &[u32], l: Layout, s: Span, o: usize, a: usize) -> usize
-    requires { Sound t.now l × Rising t.now l s }
-    ensures { result ≡ block_start t.now l s o a }
-{
-    let first = s.first;
-    let n = s.count;
-    for k in 0..n {
-        if before_block(t, l, first + k, o, a) {} else {
-            return k;
+impl<'a> Table<'a> {
+    // The nodes of class c to walk over, or none if c is no class id.
+    pub fn run_of(&self, c: Id) -> Run<'_, 'a>
+        ensures { (result.table.now ≡ self.now) × Spans self.now.areas.words.now self.now.areas.layout c.0 result.span }
+    {
+        Run {
+            table: self,
+            span: self.nodes_of(c),
         }
     }
-    n
+
+    // Whether node i comes before the nodes with the shape.
+    #[tactic(auto, unfolding(meaning::specs::Graph::before_block, meaning::specs::Graph::smaller))]
+    fn before_block(&self, i: usize, shape: Shape) -> bool
+        requires { i < self.now.areas.layout.n }
+        ensures { result ≡ before_block shape.op shape.arity (node_at self.now.areas.words.now self.now.areas.layout i) }
+    {
+        self.shape_at(i) < shape
+    }
 }
 
-// The place of some node with operator o and arity a, or where one would stand, by bisection.
-fn met(t: &[u32], l: Layout, s: Span, o: usize, a: usize) -> usize
-    requires { Sound t.now l × Rising t.now l s }
-    ensures { Met t.now l s o a result }
-{
-    let first = s.first;
-    let mut lo = 0;
-    let mut hi = s.count;
-    while lo < hi {
-        let mid = lo + (hi - lo) / 2;
-        if before_block(t, l, first + mid, o, a) {
-            lo = mid + 1;
-        } else {
-            if matches(t, l, first + mid, o, a) {
-                return mid;
+impl Run<'_, '_> {
+    ghost use Rattle.table.specs.Walks.{start_of, MetBy};
+
+    // The place of the first node with the shape, or where it would stand, in line from the first node.
+    fn start_in_line(&self, shape: Shape) -> usize
+        ensures { result ≡ start_of self.now shape }
+    {
+        (0..self.span.count)
+            .find(|&k| !self.table.before_block(self.span.first + k, shape))
+            .unwrap_or(self.span.count)
+    }
+
+    // The place of some node with the shape, or where one would stand, by halving.
+    fn met(&self, shape: Shape) -> usize
+        ensures { MetBy self.now shape result }
+    {
+        bisect::search_by(
+            self.span.count,
+            |k| self.table.shape_at(self.span.first + k).cmp(&shape),
+        )
+        .unwrap_or_else(|k| k)
+    }
+
+    // The first place, stepping back from `from` over nodes with the shape. It is a `for`, since of a range
+    // taken from its end the library's lemmas say nothing yet.
+    #[tactic(auto, using(crate::proofs::Blocks::nearer, crate::proofs::Blocks::stopped))]
+    fn stepped_back(&self, shape: Shape, from: usize) -> usize
+        requires { MetBy self.now shape from }
+        ensures { result ≡ start_of self.now shape }
+    {
+        for k in (0..from).rev() {
+            if !self.table.matches(self.span.first + k, shape) {
+                return k + 1;
             }
-            hi = mid;
         }
+        0
     }
-    lo
-}
 
-// The first place, stepping back from `from` over nodes with operator o and arity a.
-fn stepped_back(t: &[u32], l: Layout, s: Span, o: usize, a: usize, from: usize) -> usize
-    requires { Sound t.now l × Rising t.now l s × Met t.now l s o a from }
-    ensures { result ≡ block_start t.now l s o a }
-{
-    let first = s.first;
-    let mut k = from;
-    while 0 < k {
-        if matches(t, l, first + (k - 1), o, a) {
-            k -= 1;
-        } else {
-            return k;
+    // Where the walk over the nodes with the shape starts: the place of the first of them, or where it
+    // would stand. In line below 50 nodes, by halving from 50 on.
+    pub fn start(&self, shape: Shape) -> usize
+        ensures { result ≡ start_of self.now shape }
+    {
+        if self.span.count < 50 {
+            return self.start_in_line(shape);
         }
+        self.stepped_back(shape, self.met(shape))
     }
-    0
-}
-
-// Where the walk over a class's nodes with operator o and arity a starts: the place of the first of
-// them, or where it would stand. In line below 50 nodes, by bisection from 50 on.
-pub fn start(t: &[u32], l: Layout, s: Span, o: usize, a: usize) -> usize
-    requires { Sound t.now l × Rising t.now l s }
-    ensures { result ≡ block_start t.now l s o a }
-{
-    if s.count < 50 {
-        return start_in_line(t, l, s, o, a);
-    }
-    stepped_back(t, l, s, o, a, met(t, l, s, o, a))
 }

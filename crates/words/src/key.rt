@@ -1,73 +1,44 @@
-ghost use Rattle.std.specs.Prelude.{◌≡◌, ℕ, ◌+◌, ◌<◌, ◌≤◌, length};
-ghost use Rattle.meaning.specs.Tests.{same_list};
-ghost use Rattle.meaning.specs.Graph.{Node, node, less_kids, less};
-ghost use Rattle.meaning.specs.Words.{kid_at, arity_at, node_at};
-ghost use Rattle.meaning.specs.Good.{Placed};
+ghost use Rattle.std.specs.Prelude.{◌≡◌, true, length};
+ghost use Rattle.std.specs.Ordering.{MatchOrdering};
+ghost use Rattle.meaning.specs.Graph.{node, less};
 
-use crate::areas;
-use meaning::Layout;
+use std::cmp::Ordering;
 
-// Whether the children a come before the children b, left to right; the two are as many.
-fn kids_before(a: &[u32], b: &[u32]) -> bool
-    requires { length a.now ≡ length b.now }
-    ensures { result ≡ less_kids a.now b.now }
-{
-    for i in 0..a.len() {
-        let x = a[i];
-        let y = b[i];
-        if x < y {
-            return true;
-        }
-        if y < x {
-            return false;
-        }
-    }
-    false
+// An operator and its children's classes. Keys are ordered by operator, then arity, then children.
+#[derive(Clone, Copy, PartialEq, Eq, PartialOrd, Ord)]
+pub struct Key<'a> {
+    pub op: usize,
+    pub arity: usize,
+    pub kids: &'a [u32],
+    pub ghost counted: { arity ≡ length kids.now },
 }
 
-// Whether two lists of children are the same.
-pub fn same_kids(a: &[u32], b: &[u32]) -> bool
-    ensures { result ≡ same_list a.now b.now }
-{
-    if a.len() != b.len() {
-        return false;
-    }
-    for i in 0..a.len() {
-        if a[i] != b[i] {
-            return false;
+impl<'a> Key<'a> {
+    ghost use Rattle.words.specs.Keys.{node_of};
+
+    // The key op(kids).
+    pub fn new(op: usize, kids: &'a [u32]) -> Self
+        ensures { node_of result ≡ node op kids.now }
+    {
+        Key {
+            op,
+            arity: kids.len(),
+            kids,
         }
     }
-    true
-}
 
-// Whether the key o(a) comes before the key p(b): by operator, then arity, then children.
-pub fn before(o: usize, a: &[u32], p: usize, b: &[u32]) -> bool
-    ensures { result ≡ less (node o a.now) (node p b.now) }
-{
-    if o < p {
-        return true;
+    // Which of the two keys comes first, if they are not the same.
+    pub fn order(&self, other: &Key) -> Ordering
+        ensures { MatchOrdering result (less (node_of self.now) (node_of other.now) ≡ true) (node_of self.now ≡ node_of other.now) (less (node_of other.now) (node_of self.now) ≡ true) }
+    {
+        self.cmp(other)
     }
-    if p < o {
-        return false;
-    }
-    if a.len() < b.len() {
-        return true;
-    }
-    if b.len() < a.len() {
-        return false;
-    }
-    kids_before(a, b)
-}
 
-// Whether node i comes before node j.
-pub fn node_before(t: &[u32], l: Layout, i: usize, j: usize) -> bool
-    requires { Placed t.now l × (i < l.n) × (kid_at t.now l i + arity_at t.now l i ≤ l.k) × (j < l.n) × (kid_at t.now l j + arity_at t.now l j ≤ l.k) }
-    ensures { result ≡ less (node_at t.now l i) (node_at t.now l j) }
-{
-    before(
-        areas::op_at(t, l, i),
-        areas::children(t, l, i),
-        areas::op_at(t, l, j),
-        areas::children(t, l, j),
-    )
+    // Whether this key comes before the other.
+    #[tactic(auto, using(crate::proofs::Order::first))]
+    pub fn before(&self, other: &Key) -> bool
+        ensures { result ≡ less (node_of self.now) (node_of other.now) }
+    {
+        self.order(other).is_lt()
+    }
 }

@@ -1,8 +1,6 @@
 -- The nodes of one operator and arity stand together in a class. Assumes nothing.
-use Rattle.std.specs.Prelude.{ℕ, ◌<◌, ◌≤◌, ◌≡◌, refl, Bool, true, false, ◌⊎◌, ltb, length}
-use Rattle.std.proofs.Common.{sym, ◌∙◌, arith}
+use Rattle.std.proofs.Common.{ℕ, ◌<◌, ◌≤◌, ◌≡◌, refl, Bool, true, false, ◌⊎◌, ltb, length, sym, ◌∙◌, arith, ltb-true, ltb-false, lt-ltb, eqb-true, eq-eqb}
 use Rattle.std.proofs.Math.Logic.{inl, inr, ⊎_elim}
-use borrow.Author.Tests.{ltb-true, ltb-false, lt-ltb, eqb-true, eq-eqb}
 use Rattle.meaning.specs.Tests.{apart, and_left, and_right, and_both, not_true_false}
 use Rattle.meaning.specs.Graph.{Node, smaller, less_kids, less, fits, before_block}
 use Rattle.meaning.proofs.Laws.Keys.{smaller_lt, smaller_eq, smaller_cases}

@@ -1,6 +1,5 @@
 -- The key order is strict, and a key has one node. Assumes nothing.
-use Rattle.std.specs.Prelude.{ℕ, ◌<◌, ◌≤◌, ◌≡◌, refl, List, [], ◌∷◌, ◌⊎◌, Bool, true, false, cond, ltb, length}
-use Rattle.std.proofs.Common.{sym, ap, ◌∙◌, inl, inr, arith, lt-ltb, le-ltb, ltb-true, ltb-false, eqb-true, eq-eqb}
+use Rattle.std.proofs.Common.{ℕ, ◌<◌, ◌≤◌, ◌≡◌, refl, List, [], ◌∷◌, ◌⊎◌, Bool, true, false, cond, ltb, length, sym, ap, ◌∙◌, inl, inr, arith, lt-ltb, le-ltb, ltb-true, ltb-false, eqb-true, eq-eqb}
 use Rattle.meaning.specs.Tests.{apart, and_left, and_right, and_both, same_true, same_refl}
 use Rattle.meaning.specs.Graph.{Node, node, smaller, less_kids, less, is_key}
 

@@ -1,7 +1,6 @@
 -- A class's nodes, and what lookup finds: they agree in a well-formed graph. Assumes nothing.
-use Rattle.std.specs.Prelude.{ℕ, ◌≡◌, refl, Bool, true, false, cond, eqb}
-use Rattle.std.proofs.Common.{sym, ap, arith, eqb-true, eq-eqb, ne_eqb}
-use mathlib.Core.List.{List, [], ◌∷◌, ◌++◌, flat_map}
+use Rattle.std.proofs.Common.{ℕ, ◌≡◌, refl, Bool, true, false, cond, eqb, sym, ap, arith, eqb-true, eq-eqb, ne_eqb, List, [], ◌∷◌, ◌++◌, None, Some}
+use mathlib.Core.List.{flat_map}
 use mathlib.Core.List.Memᴰ.{append_left as mem-left}
 use mathlib.Core.List.Memᴰ.{append_right as mem-right}
 use mathlib.Core.List.Memᴰ.{cast as mem-cast}
@@ -9,7 +8,6 @@ use mathlib.Core.List.Memᴰ.{head}
 use mathlib.Core.List.Memᴰ.{not-nil}
 use mathlib.Core.List.Memᴰ.{tail}
 use mathlib.Core.List.{Memᴰ as Mem}
-use Rattle.meaning.specs.Tests.{none, some}
 use Rattle.meaning.specs.Lists.{All, NoDup, empty, more, all_of, nodup_left, nodup_right, nodup_apart}
 use Rattle.meaning.specs.Graph.{Graph, Node, node, is_key, has_key, lookup, nodes_of, ids, all_nodes, next, place_in, WellFormed}
 use Rattle.meaning.specs.Laws.Ascending.{lt_lt, ascends_once}
@@ -17,8 +15,8 @@ use Rattle.meaning.proofs.Laws.Keys.{key_is, is_key_lem}
 
 -- what the matcher may know of a graph: the nodes of a class and lookup agree, nothing twice, children are classes
 pub record Reads (g : Graph) : Type 0 where
-  pub found : (o : ℕ) (ks : List ℕ) (c : ℕ) → Mem (node o ks) (nodes_of g c) → lookup g o ks ≡ some c
-  pub listed : (o : ℕ) (ks : List ℕ) (c : ℕ) → lookup g o ks ≡ some c → Mem (node o ks) (nodes_of g c)
+  pub found : (o : ℕ) (ks : List ℕ) (c : ℕ) → Mem (node o ks) (nodes_of g c) → lookup g o ks ≡ Some c
+  pub listed : (o : ℕ) (ks : List ℕ) (c : ℕ) → lookup g o ks ≡ Some c → Mem (node o ks) (nodes_of g c)
   pub once : (c : ℕ) → NoDup (nodes_of g c)
   pub apart : NoDup (ids g)
   pub closed : (n : Node) (c : ℕ) → Mem n (nodes_of g c) → All (λ d. Mem d (ids g)) n.kids
@@ -68,32 +66,32 @@ class_once (k ∷ g) c d = go (eqb k.id c) (class_once g c (nodup_right k.nodes 
     go false f = f
 
 -- a node of a class is found there
-pub class_found : (g : Graph) (o : ℕ) (ks : List ℕ) (c : ℕ) → NoDup (all_nodes g) → Mem (node o ks) (nodes_of g c) → lookup g o ks ≡ some c
+pub class_found : (g : Graph) (o : ℕ) (ks : List ℕ) (c : ℕ) → NoDup (all_nodes g) → Mem (node o ks) (nodes_of g c) → lookup g o ks ≡ Some c
 unfolding nodes_of all_nodes flat_map lookup
 class_found [] o ks c d m = absurd (not-nil m)
 class_found (k ∷ g) o ks c d m = go (eqb k.id c) refl m (λ r. class_found g o ks c (nodup_right k.nodes d) r)
   where
-    go : (b : Bool) → eqb k.id c ≡ b → Mem (node o ks) (cond b k.nodes (nodes_of g c)) → (Mem (node o ks) (nodes_of g c) → lookup g o ks ≡ some c)
-        → cond (has_key o ks k.nodes) (some k.id) (lookup g o ks) ≡ some c
-    go true e m f = rw (mem_key o ks k.nodes m) (ap some (eqb-true k.id c e))
+    go : (b : Bool) → eqb k.id c ≡ b → Mem (node o ks) (cond b k.nodes (nodes_of g c)) → (Mem (node o ks) (nodes_of g c) → lookup g o ks ≡ Some c)
+        → cond (has_key o ks k.nodes) (Some k.id) (lookup g o ks) ≡ Some c
+    go true e m f = rw (mem_key o ks k.nodes m) (ap Some (eqb-true k.id c e))
     go false e m f = rw (no_key o ks k.nodes (λ j. nodup_apart k.nodes d j (class_node g c (node o ks) m))) (f m)
 
-pub found_id : (g : Graph) (o : ℕ) (ks : List ℕ) (c : ℕ) → lookup g o ks ≡ some c → Mem c (ids g)
+pub found_id : (g : Graph) (o : ℕ) (ks : List ℕ) (c : ℕ) → lookup g o ks ≡ Some c → Mem c (ids g)
 unfolding ids lookup
 found_id [] o ks c e = absurd (let z : ◌≡◌ {A = ℕ} 0 1 = cc in omega arith)
 found_id (k ∷ g) o ks c e = go (has_key o ks k.nodes) e (λ r. found_id g o ks c r)
   where
-    go : (b : Bool) → cond b (some k.id) (lookup g o ks) ≡ some c → (lookup g o ks ≡ some c → Mem c (ids g)) → Mem c (k.id ∷ ids g)
+    go : (b : Bool) → cond b (Some k.id) (lookup g o ks) ≡ Some c → (lookup g o ks ≡ Some c → Mem c (ids g)) → Mem c (k.id ∷ ids g)
     go true e f = let s : c ≡ k.id = cc in head s
     go false e f = tail (f e)
 
 -- what is found is a node of that class
-pub found_class : (g : Graph) (o : ℕ) (ks : List ℕ) (c : ℕ) → NoDup (ids g) → lookup g o ks ≡ some c → Mem (node o ks) (nodes_of g c)
+pub found_class : (g : Graph) (o : ℕ) (ks : List ℕ) (c : ℕ) → NoDup (ids g) → lookup g o ks ≡ Some c → Mem (node o ks) (nodes_of g c)
 unfolding nodes_of ids lookup
 found_class [] o ks c d e = absurd (let z : ◌≡◌ {A = ℕ} 0 1 = cc in omega arith)
 found_class (k ∷ g) o ks c (more n d) e = go (has_key o ks k.nodes) refl e (λ r. found_class g o ks c d r)
   where
-    go : (b : Bool) → has_key o ks k.nodes ≡ b → cond b (some k.id) (lookup g o ks) ≡ some c → (lookup g o ks ≡ some c → Mem (node o ks) (nodes_of g c))
+    go : (b : Bool) → has_key o ks k.nodes ≡ b → cond b (Some k.id) (lookup g o ks) ≡ Some c → (lookup g o ks ≡ Some c → Mem (node o ks) (nodes_of g c))
         → Mem (node o ks) (cond (eqb k.id c) k.nodes (nodes_of g c))
     go true h e f = let s : k.id ≡ c = cc in rw (eq-eqb k.id c s) (key_mem o ks k.nodes h)
     go false h e f = rw (ne_eqb k.id c (λ s. n (mem-cast s (found_id g o ks c e)))) (f e)
@@ -112,16 +110,16 @@ reads g w = record {
 }
 
 -- no node with the key: nothing is found
-pub lookup_none : (g : Graph) (o : ℕ) (ks : List ℕ) → (Mem (node o ks) (all_nodes g) → ⊥) → lookup g o ks ≡ none
+pub lookup_none : (g : Graph) (o : ℕ) (ks : List ℕ) → (Mem (node o ks) (all_nodes g) → ⊥) → lookup g o ks ≡ None
 unfolding lookup all_nodes flat_map
 lookup_none [] o ks n = refl
 lookup_none (k ∷ g) o ks n = rw (no_key o ks k.nodes (λ m. n (mem-left (all_nodes g) m))) (lookup_none g o ks (λ m. n (mem-right k.nodes m)))
 
-pub place_none : (o : ℕ) (ks : List ℕ) (l : List Node) → (Mem (node o ks) l → ⊥) → place_in o ks l ≡ none
+pub place_none : (o : ℕ) (ks : List ℕ) (l : List Node) → (Mem (node o ks) l → ⊥) → place_in o ks l ≡ None
 unfolding place_in next
 place_none o ks [] n = refl
 place_none o ks (m ∷ l) n = go (is_key o ks m) refl (place_none o ks l (λ k. n (tail k)))
   where
-    go : (b : Bool) → is_key o ks m ≡ b → place_in o ks l ≡ none → cond b (some 0) (next (place_in o ks l)) ≡ none
+    go : (b : Bool) → is_key o ks m ≡ b → place_in o ks l ≡ None → cond b (Some 0) (next (place_in o ks l)) ≡ None
     go true e f = absurd (n (head (sym (key_is o ks m e))))
     go false e f = rw f

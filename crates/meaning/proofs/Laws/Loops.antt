@@ -1,9 +1,12 @@
 -- Tests in a row: a loop that leaves at the first number that fails or at the first that passes, and two tests joined. Assumes nothing.
-use Rattle.std.specs.Prelude.{ℕ, ◌+◌, ◌<◌, ◌≤◌, ◌≡◌, Bool, true, false, not}
-use Rattle.std.proofs.Common.{sym, ap, ◌∙◌, arith}
+use Rattle.std.proofs.Common.{ℕ, ◌+◌, ◌<◌, ◌≤◌, ◌≡◌, Bool, true, false, not, refl, sym, ap, ◌∙◌, arith}
 use Rattle.meaning.specs.Tests.{and, and_fails_left, all_below, all_more, all_fails}
 use Rattle.meaning.specs.PatternRefusal.{some_below}
 use Rattle.meaning.proofs.Laws.PatternRules.{found_some}
+
+pub started : (p : ℕ → Bool) → all_below p 0 ≡ true
+unfolding all_below
+started p = refl
 
 -- one more number passes
 pub more : (p : ℕ → Bool) (x : ℕ) (r : Bool) → r ≡ p x → r ≡ true → all_below p x ≡ true → all_below p (x + 1) ≡ true
@@ -16,6 +19,14 @@ broken p n x r e h l = all_fails p n x l (sym e ∙ h)
 -- all have passed
 pub passed : (p : ℕ → Bool) (n x : ℕ) → all_below p x ≡ true → x ≤ n → n ≤ x → all_below p n ≡ true
 passed p n x h l g = let e : x ≡ n = omega arith in rw e at h
+
+pub fails : (p : ℕ → Bool) (n x : ℕ) (r : Bool) → r ≡ p x → r ≡ false → x < n → false ≡ all_below p n
+fails p n x r e h l = sym (broken p n x r e h l)
+
+pub holds : (p : ℕ → Bool) (n x : ℕ) → all_below p x ≡ true → x ≤ n → n ≤ x → true ≡ all_below p n
+holds p n x h l g = sym (passed p n x h l g)
+
+pub ruleset loops = (started, more, fails, holds)
 
 -- one more number fails
 pub unmet : (p : ℕ → Bool) (x : ℕ) (r : Bool) → r ≡ p x → r ≡ false → all_below (λ y. not (p y)) x ≡ true → all_below (λ y. not (p y)) (x + 1) ≡ true

@@ -1,6 +1,5 @@
 -- The computed refusal number is document 01's, and there is one for all words. Assumes nothing.
-use Rattle.std.specs.Prelude.{ℕ, ◌≤◌, ◌≡◌, refl, List, Bool, true, false, cond, ◌↔◌, length, ltb}
-use Rattle.std.proofs.Common.{sym, subst, ◌∙◌, ltb-true, ltb-false, lt-ltb, le-ltb}
+use Rattle.std.proofs.Common.{ℕ, ◌≤◌, ◌≡◌, refl, List, Bool, true, false, cond, ◌↔◌, length, ltb, sym, subst, ◌∙◌, ltb-true, ltb-false, lt-ltb, le-ltb}
 use Rattle.meaning.specs.declared.Layout.{Layout}
 use Rattle.meaning.specs.Tests.{apart, not_true_false}
 use Rattle.meaning.specs.Words.{layout_of}

@@ -1,11 +1,10 @@
 -- The computed refusal numbers of patterns and multipatterns are document 01's, one for all words. Assumes nothing.
-use Rattle.std.specs.Prelude.{ℕ, zero, suc, ◌<◌, ◌≤◌, ◌≡◌, List, ◌↔◌, Bool, cond, eqb, ltb}
+use Rattle.std.proofs.Common.{ℕ, zero, suc, ◌<◌, ◌≤◌, ◌≡◌, List, ◌↔◌, Bool, cond, eqb, ltb, sym, ap, subst, ◌∙◌, ⊎_elim, arith, eq-or-lt_of_le, le_of_suc-le-suc, ltb-true, ltb-false, lt-ltb, le-ltb, leb-true, leb-false, le-leb, eqb-true, ne_eqb}
 use Rattle.std.proofs.Math.Path.{refl}
-use Rattle.std.proofs.Common.{sym, ap, subst, ◌∙◌, ⊎_elim, arith, eq-or-lt_of_le, le_of_suc-le-suc}
 use Rattle.std.proofs.Math.Bool.{true, false}
 use Rattle.std.proofs.Math.ListN.{length}
 use Rattle.std.proofs.Math.Dec.{leb}
-use borrow.Author.Tests.{ltb-true, ltb-false, lt-ltb, le-ltb, leb-true, leb-false, le-leb, lt-leb, eqb-true, eqb-false, ne_eqb}
+use borrow.Author.Tests.{lt-leb, eqb-false}
 use Rattle.meaning.specs.Tests.{apart, not_true_false}
 use Rattle.meaning.specs.Words.{word}
 use Rattle.meaning.specs.Pattern.{occurrences}

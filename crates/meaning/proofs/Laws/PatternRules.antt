@@ -1,19 +1,16 @@
 -- Each computed test of a pattern or a multipattern is true exactly if its rule holds. Assumes nothing.
-use Prim.Native.Nat.{ℕ, zero, suc, ◌+◌, ◌-◌, ◌<◌}
+use Rattle.std.proofs.Common.{ℕ, zero, suc, ◌+◌, ◌-◌, ◌<◌, sym, ◌∙◌, List, [], ◌∷◌, map, Bool, lt-ltb, ltb-true, le-leb, leb-true, eq-eqb, eqb-true, arith}
 use Rattle.std.proofs.Math.Path.{◌≡◌, refl}
-use Rattle.std.proofs.Common.{sym, ◌∙◌}
-use mathlib.Core.List.{List, [], ◌∷◌, map, nil≢cons, cons≢nil, head-eq_of_cons-eq, tail-eq_of_cons-eq}
-use Rattle.std.specs.Prelude.{Bool}
+use mathlib.Core.List.{nil≢cons, cons≢nil, head-eq_of_cons-eq, tail-eq_of_cons-eq}
 use Rattle.std.proofs.Math.Bool.{true, false, cond, not}
 use Rattle.std.proofs.Math.Dec.{eqb, ltb}
-use borrow.Author.Tests.{lt-ltb, ltb-true, le-leb, leb-true, eq-eqb, eqb-true, not-true}
-use native.Mathlib.Omega.{arith}
+use borrow.Author.Tests.{not-true}
 use Rattle.meaning.specs.Tests.{and, all_below, and_left, and_right, and_both, all_at, all_of, same_true, same_is, apart, not_true_false}
 use Rattle.meaning.specs.Ranges.{from}
 use Rattle.meaning.specs.Words.{word}
 use Rattle.meaning.specs.Pattern.{var, op}
 use Rattle.meaning.specs.PatternWords.{kind_at, number_at, degree_at, start_at, child_of, children_of, pnode_at, pattern_of}
-use Rattle.meaning.specs.GoodPattern.{PatternLimits, PatternShape, Same, PatternNodes, MultiLimits, MultiShape, IsLone}
+use Rattle.meaning.specs.GoodPattern.{PatternLimits, PatternShape, Same, PatternNodes, Downward, MultiLimits, MultiShape, IsLone}
 use Rattle.meaning.specs.PatternRefusal.{some_below, good_pattern_limits, good_pattern_shape, good_below, good_part_at, good_parts, is_used, good_use, is_same, is_new, good_once, good_pattern_nodes, good_multi_limits, good_entry_at, good_multi_shape, lone_variable}
 use Rattle.meaning.specs.Laws.Joins.{joined_within}
 use Rattle.meaning.proofs.Laws.Rules.{joined}
@@ -75,21 +72,34 @@ module _ (w : List ℕ) where
   unfolding is_same
   is_same_lem i j s = and_both (eq-eqb _ _ s.kind) (and_both (eq-eqb _ _ s.number) (same_is _ _ s.children))
 
-  pub part_at_lem : good_pattern_nodes w ≡ true → (i : ℕ) → i < word w 0 → good_part_at w i ≡ true
-  unfolding good_pattern_nodes good_parts
-  part_at_lem h = all_at (good_part_at w) (word w 0) (and_left _ _ (and_left _ _ h))
+  -- each node by itself
+  pub part_at_lem : good_parts w ≡ true → (i : ℕ) → i < word w 0 → good_part_at w i ≡ true
+  unfolding good_parts
+  part_at_lem h = all_at (good_part_at w) (word w 0) (and_left _ _ h)
 
-  pub pattern_nodes : good_pattern_nodes w ≡ true → PatternNodes w
-  unfolding good_pattern_nodes good_parts good_part_at good_below good_use is_used good_once is_new
-  pattern_nodes h =
+  pub part_nodes : good_parts w ≡ true → Downward w
+  unfolding good_parts good_part_at good_below
+  part_nodes h =
       let at : (i : ℕ) → i < word w 0 → good_part_at w i ≡ true = part_at_lem h in
-      let rest = and_right _ _ h in
       record {
         kind = λ i b. leb-true _ _ (and_left _ _ (at i b));
         leaf = λ i b e. leaf_test _ _ (and_left _ _ (and_right _ _ (at i b))) e;
         arity = λ i b. leb-true _ _ (and_left _ _ (and_right _ _ (and_right _ _ (at i b))));
-        joined = joined (start_at w) (degree_at w) (word w 0) (word w 1) (λ i b. and_left _ _ (and_right _ _ (and_right _ _ (and_right _ _ (at i b))))) (and_right _ _ (and_left _ _ h));
+        joined = joined (start_at w) (degree_at w) (word w 0) (word w 1) (λ i b. and_left _ _ (and_right _ _ (and_right _ _ (and_right _ _ (at i b))))) (and_right _ _ h);
         below = λ i x b c. ltb-true _ _ (all_at (λ x. ltb (child_of w (start_at w i + x)) i) (degree_at w i) (and_right _ _ (and_right _ _ (and_right _ _ (and_right _ _ (and_right _ _ (at i b)))))) x c);
+      }
+
+  pub pattern_nodes : good_pattern_nodes w ≡ true → PatternNodes w
+  unfolding good_pattern_nodes good_use is_used good_once is_new
+  pattern_nodes h =
+      let d = part_nodes (and_left _ _ h) in
+      let rest = and_right _ _ h in
+      record {
+        kind = d.kind;
+        leaf = d.leaf;
+        arity = d.arity;
+        joined = d.joined;
+        below = d.below;
         used = λ i b. used_at (all_at (is_used w) (word w 0 - 1) (and_left _ _ rest) i (omega arith));
         once = λ i j l b s. apart (sym (is_same_lem i j s) ∙ not-true _ (all_at (λ i. not (is_same w i j)) j (all_at (is_new w) (word w 0) (and_right _ _ rest) j b) i l));
       }

@@ -1,7 +1,6 @@
 -- What follows from a good pattern's words: the facts that the floors above may use. Assumes nothing.
-use Rattle.std.specs.Prelude.{ℕ, zero, suc, ◌+◌, ◌*◌, ◌-◌, ◌<◌, ◌≤◌, ◌≡◌, List, [], ◌∷◌, Bool, cond, ltb, length, get_or, drop}
+use Rattle.std.proofs.Common.{ℕ, zero, suc, ◌+◌, ◌*◌, ◌-◌, ◌<◌, ◌≤◌, ◌≡◌, List, [], ◌∷◌, Bool, cond, ltb, length, get_or, drop, ◌∙◌, length-take, length-drop, arith, zero-add, add_assoc, eqb-true, eq-eqb, ne_eqb, ltb-true, ltb-false}
 use Rattle.std.proofs.Math.Path.{refl, sym, ap}
-use Rattle.std.proofs.Common.{◌∙◌, length-take, length-drop, arith, zero-add, add_assoc}
 use mathlib.Core.List.Memᴰ.{cast as mem-cast}
 use mathlib.Core.List.Memᴰ.{head}
 use mathlib.Core.List.Memᴰ.{tail}
@@ -9,12 +8,12 @@ use mathlib.Core.List.{Memᴰ as Mem}
 use Rattle.std.proofs.Math.Bool.{true, false}
 use Rattle.std.proofs.Math.Dec.{eqb}
 use Rattle.std.proofs.Math.Seq.{get_or-take, get_or-drop}
-use borrow.Author.Tests.{eqb-true, eqb-false, eq-eqb, ne_eqb, ltb-true, ltb-false}
+use borrow.Author.Tests.{eqb-false}
 use Rattle.meaning.specs.Lists.{NoDup}
 use Rattle.meaning.specs.Words.{word}
 use Rattle.meaning.specs.Pattern.{var, op, node_of, kids_of, Ordered, sum, occ_of, occ}
 use Rattle.meaning.specs.PatternWords.{kind_at, number_at, degree_at, start_at, child_of, children_of, pnode_at, pattern_of}
-use Rattle.meaning.specs.GoodPattern.{Same, PatternNodes, GoodPattern}
+use Rattle.meaning.specs.GoodPattern.{Same, PatternNodes, Downward, GoodPattern}
 use Rattle.meaning.specs.Laws.Runs.{map_length, map_at, run_once}
 use Rattle.meaning.specs.Laws.Joins.{joined_within, joined_find}
 use Rattle.meaning.proofs.Laws.Tables.{mem_part}
@@ -22,7 +21,7 @@ use Rattle.meaning.specs.Laws.Built.{value_at}
 use Rattle.meaning.specs.Laws.Instances.{occ_local}
 
 -- what stands at a place of a list is one of it
-at_mem : (l : List ℕ) (x : ℕ) → x < length l → Mem (get_or l x 0) l
+pub at_mem : (l : List ℕ) (x : ℕ) → x < length l → Mem (get_or l x 0) l
 at_mem [] x h = absurd (omega arith)
 at_mem (a ∷ l) zero h = head refl
 at_mem (a ∷ l) (suc x) h = tail (at_mem l x (omega arith))
@@ -49,12 +48,20 @@ module _ (w : List ℕ) where
       let (x, b, e) = mem_part (degree_at w i) (4 + 4 * word w 0 + start_at w i) w c m in
       (x, b, e ∙ ap (λ (n : ℕ). word w n) (add_assoc (4 + 4 * word w 0) (start_at w i) x))
 
+  -- as many as its arity, if they lie in the words
+  pub children_count : (i : ℕ) → 4 + 4 * word w 0 + start_at w i + degree_at w i ≤ length w → length (children_of w i) ≡ degree_at w i
+  unfolding children_of
+  children_count i h = simp (length-take, length-drop) (omega arith)
+
   no_children : (i : ℕ) → degree_at w i ≡ 0 → children_of w i ≡ []
   unfolding children_of
   no_children i e = rw e
 
+pub downward : {w : List ℕ} → PatternNodes w → Downward w
+downward r = record { kind = r.kind; leaf = r.leaf; arity = r.arity; joined = r.joined; below = r.below }
+
 -- each node by itself
-module _ {w : List ℕ} (r : PatternNodes w) where
+module _ {w : List ℕ} (r : Downward w) where
   pub pnode_var : (i : ℕ) → kind_at w i ≡ 0 → pnode_at w i ≡ var (number_at w i)
   unfolding pnode_at
   pnode_var i e = rw (eq-eqb (kind_at w i) 0 e)
@@ -107,19 +114,6 @@ module _ {w : List ℕ} (r : PatternNodes w) where
           let d : op (number_at w i) (children_of w i) ≡ op (number_at w j) (children_of w j) = sym (pnode_op i k) ∙ e ∙ pnode_op j l in
           record { kind = omega arith; number = cc; children = kids }
 
-  pub pnode_once : (i j : ℕ) → i < word w 0 → j < word w 0 → pnode_at w i ≡ pnode_at w j → i ≡ j
-  pnode_once i j a b e = go (ltb i j) refl (ltb j i) refl
-    where
-      go : (p : Bool) → ltb i j ≡ p → (q : Bool) → ltb j i ≡ q → i ≡ j
-      go true p q s = absurd (r.once i j (ltb-true i j p) b (same_node i j a b e))
-      go false p true s = absurd (r.once j i (ltb-true j i s) a (same_node j i b a (sym e)))
-      go false p false s = let u = ltb-false i j p in let v = ltb-false j i s in omega arith
-
-  -- no two nodes are equal
-  pub pattern_once : NoDup (pattern_of w)
-  unfolding pattern_of
-  pattern_once = run_once (pnode_at w) (word w 0) pnode_once
-
   -- a node's occurrences, from its children's
   pub occ_at : 1 ≤ word w 0 → (i : ℕ) → i < word w 0 → occ (pattern_of w) i ≡ 1 + sum (occ (pattern_of w)) (children_of w i)
   unfolding occ
@@ -137,19 +131,33 @@ module _ {w : List ℕ} (r : PatternNodes w) where
 
     -- as many as its arity
     pub children_length : (i : ℕ) → i < word w 0 → length (children_of w i) ≡ degree_at w i
-    unfolding children_of
-    children_length i h = let b = children_in i h in simp (length-take, length-drop) (omega arith)
+    children_length i h = children_count w i (children_in i h)
 
-    -- every node but the last is a child of some node
-    pub parent : (i : ℕ) → suc i < word w 0 → (j : ℕ) × (j < word w 0) × Mem i (kids_of (node_of (pattern_of w) j))
-    parent i h =
-        let (x, b, e) = r.used i h in
-        let (j, a, low, high) = joined_find (word w 0) (word w 1) r.joined x b in
-        let d : x - start_at w j < degree_at w j = omega arith in
-        let q : start_at w j + (x - start_at w j) ≡ x = omega arith in
-        let m = at_mem (children_of w j) (x - start_at w j) (rw (children_length j a) d) in
-        (j, a, rw (pattern_at w j a, kids_of_lem j a) (mem-cast (sym (child_there w j (x - start_at w j) d ∙ rw q e)) m))
+-- and all of them together
+module _ {w : List ℕ} (r : PatternNodes w) where
+  pub pnode_once : (i j : ℕ) → i < word w 0 → j < word w 0 → pnode_at w i ≡ pnode_at w j → i ≡ j
+  pnode_once i j a b e = go (ltb i j) refl (ltb j i) refl
+    where
+      go : (p : Bool) → ltb i j ≡ p → (q : Bool) → ltb j i ≡ q → i ≡ j
+      go true p q s = absurd (r.once i j (ltb-true i j p) b (same_node (downward r) i j a b e))
+      go false p true s = absurd (r.once j i (ltb-true j i s) a (same_node (downward r) j i b a (sym e)))
+      go false p false s = let u = ltb-false i j p in let v = ltb-false j i s in omega arith
+
+  -- no two nodes are equal
+  pub pattern_once : NoDup (pattern_of w)
+  unfolding pattern_of
+  pattern_once = run_once (pnode_at w) (word w 0) pnode_once
+
+  -- every node but the last is a child of some node
+  pub parent : length w ≡ 4 + 4 * word w 0 + word w 1 → (i : ℕ) → suc i < word w 0 → (j : ℕ) × (j < word w 0) × Mem i (kids_of (node_of (pattern_of w) j))
+  parent l i h =
+      let (x, b, e) = r.used i h in
+      let (j, a, low, high) = joined_find (word w 0) (word w 1) r.joined x b in
+      let d : x - start_at w j < degree_at w j = omega arith in
+      let q : start_at w j + (x - start_at w j) ≡ x = omega arith in
+      let m = at_mem (children_of w j) (x - start_at w j) (rw (children_length (downward r) l j a) d) in
+      (j, a, rw (pattern_at w j a, kids_of_lem (downward r) j a) (mem-cast (sym (child_there w j (x - start_at w j) d ∙ rw q e)) m))
 
 -- a good pattern is one that the meaning of a pattern is made for
 pub good_ordered : {w : List ℕ} → GoodPattern w → Ordered (pattern_of w)
-good_ordered g = ordered g.nodes g.limits.some
+good_ordered g = ordered (downward g.nodes) g.limits.some

@@ -1,12 +1,8 @@
 -- Each computed test is true exactly if its rule holds. Assumes nothing.
-use Rattle.std.specs.Prelude.{ℕ, zero, suc, ◌+◌, ◌-◌, ◌<◌, ◌≡◌, length, get_or, eqb}
+use Rattle.std.proofs.Common.{ℕ, zero, suc, ◌+◌, ◌-◌, ◌<◌, ◌≡◌, length, get_or, eqb, subst, ◌∙◌, List, [], ◌∷◌, map, lt-ltb, ltb-true, le-leb, leb-true, eq-eqb, eqb-true, arith}
 use Rattle.std.proofs.Math.Path.{refl, sym, ap}
-use Rattle.std.proofs.Common.{subst, ◌∙◌}
-use mathlib.Core.List.{List, [], ◌∷◌, map}
 use mathlib.Core.List.{Memᴰ as Mem}
 use Rattle.std.proofs.Math.Bool.{true}
-use borrow.Author.Tests.{lt-ltb, ltb-true, le-leb, leb-true, eq-eqb, eqb-true}
-use native.Mathlib.Omega.{arith}
 use Rattle.std.proofs.Math.Nat.{zero-add}
 use Rattle.meaning.specs.declared.Layout.{Layout}
 use Rattle.meaning.specs.Tests.{and_left, and_right, and_both, all_at, all_of, same_true, same_refl}

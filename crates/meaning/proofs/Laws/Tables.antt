@@ -1,17 +1,14 @@
 -- What follows from a good table: the facts that the floors above may use. Assumes nothing.
-use Rattle.std.specs.Prelude.{ℕ, zero, suc, ◌+◌, ◌*◌, ◌-◌, ◌<◌, ◌≤◌, ◌≡◌, refl, ◌↔◌, Bool, true, false, cond, ltb, get_or, take, drop}
-use Rattle.std.proofs.Common.{sym, ◌∙◌, length-take, length-drop, get_or-take, get_or-drop, mul-le-mul_right, eq-eqb, ne_eqb, ltb-true, ltb-false}
+use Rattle.std.proofs.Common.{ℕ, zero, suc, ◌+◌, ◌*◌, ◌-◌, ◌<◌, ◌≤◌, ◌≡◌, refl, ◌↔◌, Bool, true, false, cond, ltb, get_or, take, drop, sym, ◌∙◌, length-take, length-drop, get_or-take, get_or-drop, mul-le-mul_right, eq-eqb, ne_eqb, ltb-true, ltb-false, List, [], ◌∷◌, ◌++◌, map, arith, None, Some}
 use Rattle.std.proofs.Math.Path.{ap}
-use mathlib.Core.List.{List, [], ◌∷◌, ◌++◌, map, flat_map}
+use mathlib.Core.List.{flat_map}
 use mathlib.Core.List.Memᴰ.{cast as mem-cast}
 use mathlib.Core.List.Memᴰ.{head}
 use mathlib.Core.List.Memᴰ.{tail}
 use mathlib.Core.List.{Memᴰ as Mem}
 use Rattle.std.proofs.Math.ListN.{length}
-use native.Mathlib.Omega.{arith}
 use Rattle.std.proofs.Math.Nat.{zero-add}
 use Rattle.meaning.specs.declared.Layout.{Layout}
-use Rattle.meaning.specs.Tests.{none, some}
 use Rattle.meaning.specs.Lists.{All, all_of, NoDup, Ascends, map_map}
 use Rattle.meaning.specs.Ranges.{from}
 use Rattle.meaning.specs.Graph.{Graph, Node, Class, node, less, is_key, lookup, nodes_of, ids, all_nodes, next, place_in, WellFormed}
@@ -85,7 +82,7 @@ nodes_of_run k a (suc n) (suc j) d h =
     (nodes_of_run k (suc a) n j (λ x b q. let f : a + suc x ≡ suc a + x = omega arith in let z = d (suc x) (omega arith) (rw (f, e) q) in omega arith) (omega arith))
 
 -- the place of a node, in a run with no other of its key
-place_of_run : (f : ℕ → Node) (o : ℕ) (ks : List ℕ) (a n j : ℕ) → ((x : ℕ) → x < n → f (a + x) ≡ node o ks → x ≡ j) → j < n → f (a + j) ≡ node o ks → place_in o ks (map f (from a n)) ≡ some j
+place_of_run : (f : ℕ → Node) (o : ℕ) (ks : List ℕ) (a n j : ℕ) → ((x : ℕ) → x < n → f (a + x) ≡ node o ks → x ≡ j) → j < n → f (a + j) ≡ node o ks → place_in o ks (map f (from a n)) ≡ Some j
 unfolding place_in from next
 place_of_run f o ks a zero j d h k = absurd (omega arith)
 place_of_run f o ks a (suc n) zero d h k = let e : a + 0 ≡ a = omega arith in rw (is_key_lem o ks (f a) (rw e at k))
@@ -93,7 +90,7 @@ place_of_run f o ks a (suc n) (suc j) d h k = go (is_key o ks (f a)) refl
     (place_of_run f o ks (suc a) n j (λ x b q. let e : a + suc x ≡ suc a + x = omega arith in let z = d (suc x) (omega arith) (rw e q) in omega arith) (omega arith)
     (let e : a + suc j ≡ suc a + j = omega arith in rw e at k))
   where
-    go : (b : Bool) → is_key o ks (f a) ≡ b → place_in o ks (map f (from (suc a) n)) ≡ some j → cond b (some 0) (next (place_in o ks (map f (from (suc a) n)))) ≡ some (suc j)
+    go : (b : Bool) → is_key o ks (f a) ≡ b → place_in o ks (map f (from (suc a) n)) ≡ Some j → cond b (Some 0) (next (place_in o ks (map f (from (suc a) n)))) ≡ Some (suc j)
     go true e r = absurd (let g : a + 0 ≡ a = omega arith in let z = d 0 (omega arith) (rw g (key_is o ks (f a) e)) in omega arith)
     go false e r = rw r
 
@@ -220,13 +217,13 @@ module _ {t : List ℕ} {l : Layout} (s : Sound t l) where
       closed n c p k = let (i, b, e) = p in (id_canonical c).1 (kid_canonical i b c (rw e at k))
 
   -- what lookup owes for the key of node i: its number, and its class
-  pub node_placed : (o : ℕ) (ks : List ℕ) (i : ℕ) → i < l.n → node_at t l i ≡ node o ks → place_in o ks (all_nodes (graph_at t l)) ≡ some i
+  pub node_placed : (o : ℕ) (ks : List ℕ) (i : ℕ) → i < l.n → node_at t l i ≡ node o ks → place_in o ks (all_nodes (graph_at t l)) ≡ Some i
   node_placed o ks i h e = rw (all_nodes_lem s.classes)
       (place_of_run (node_at t l) o ks 0 l.n i (λ x b q. node_once x i b h (rw (zero-add x) at q ∙ sym e)) h (rw (zero-add i) e))
 
-  pub node_found : (o : ℕ) (ks : List ℕ) (i : ℕ) → i < l.n → node_at t l i ≡ node o ks → lookup (graph_at t l) o ks ≡ some (owner_at t l i)
+  pub node_found : (o : ℕ) (ks : List ℕ) (i : ℕ) → i < l.n → node_at t l i ≡ node o ks → lookup (graph_at t l) o ks ≡ Some (owner_at t l i)
   node_found o ks i h e = class_found (graph_at t l) o ks (owner_at t l i) well_formed.once (mem-cast (sym e) (owner_nodes i h))
 
   -- and for a key that no node has
-  pub key_unplaced : (o : ℕ) (ks : List ℕ) → ((i : ℕ) → i < l.n → node_at t l i ≡ node o ks → ⊥) → place_in o ks (all_nodes (graph_at t l)) ≡ none
+  pub key_unplaced : (o : ℕ) (ks : List ℕ) → ((i : ℕ) → i < l.n → node_at t l i ≡ node o ks → ⊥) → place_in o ks (all_nodes (graph_at t l)) ≡ None
   key_unplaced o ks n = place_none o ks (all_nodes (graph_at t l)) (λ m. let (i, b, e) = (mem_node (node o ks)).0 m in n i b (sym e))

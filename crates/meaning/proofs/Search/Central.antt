@@ -1,9 +1,6 @@
 -- The rows of a program are the assignments that solve the state it was compiled from, each once. Assumes nothing.
-use Prim.Native.Nat.{ℕ, ◌+◌}
-use Rattle.std.specs.Prelude.{◌≡◌, true, length, eqb}
+use Rattle.std.proofs.Common.{ℕ, ◌+◌, ◌≡◌, true, length, eqb, sym, ◌∙◌, subst, add-one, eqb-true, eq-eqb, List, [], ◌∷◌, ◌++◌}
 use Rattle.std.proofs.Math.Path.{refl}
-use Rattle.std.proofs.Common.{sym, ◌∙◌, subst, add-one, eqb-true, eq-eqb}
-use mathlib.Core.List.{List, [], ◌∷◌, ◌++◌}
 use Rattle.meaning.specs.Tests.{is_class, class_true, class_is}
 use Rattle.meaning.specs.Lists.{All, nil, cons, took_all, put_all}
 use Rattle.meaning.specs.Graph.{Graph, nodes_of, ids, fits}

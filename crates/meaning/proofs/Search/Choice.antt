@@ -1,14 +1,12 @@
 -- Which item is taken next, and what it gives: document 01's words, and the computed choice is that. Assumes nothing.
-use Rattle.std.specs.Prelude.{ℕ, zero, suc, ◌<◌, ◌≡◌, List, [], ◌∷◌, ◌⊎◌, Bool, false, cond, not, length, get_or, eqb, ltb}
+use Rattle.std.proofs.Common.{ℕ, zero, suc, ◌<◌, ◌≡◌, List, [], ◌∷◌, ◌⊎◌, Bool, false, cond, not, length, get_or, eqb, ltb, ◌∙◌, inl, inr, eq-or-lt_of_le, le_of_suc-le-suc, eqb-true, eq-eqb, ltb-true, lt-ltb, arith}
 use Rattle.std.proofs.Math.Path.{refl, sym, ap}
-use Rattle.std.proofs.Common.{◌∙◌, inl, inr, eq-or-lt_of_le, le_of_suc-le-suc}
 use mathlib.Core.List.Memᴰ.{head}
 use mathlib.Core.List.Memᴰ.{tail}
 use mathlib.Core.List.{Memᴰ as Mem}
 use Rattle.std.proofs.Math.Logic.{⊎_elim}
 use Rattle.std.proofs.Math.Bool.{true}
-use borrow.Author.Tests.{eqb-true, eqb-false, eq-eqb, ne_eqb, ltb-true, lt-ltb}
-use native.Mathlib.Omega.{arith}
+use borrow.Author.Tests.{eqb-false, ne_eqb}
 use Rattle.meaning.specs.Tests.{and, apart, and_fails_left, and_fails_right}
 use Rattle.meaning.specs.Graph.{smaller}
 use Rattle.meaning.specs.Pattern.{op, Pattern, size}

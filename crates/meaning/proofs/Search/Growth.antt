@@ -1,11 +1,9 @@
 -- What a map that keeps every node does to instances and rows. Assumes nothing.
-use Rattle.std.specs.Prelude.{ℕ, zero, suc, ◌<◌, ◌≡◌, refl, List, [], ◌∷◌, map, Bool, true, false, length, ltb}
-use Rattle.std.proofs.Common.{sym, ap, ◌∙◌, ltb-true, ltb-false, arith}
+use Rattle.std.proofs.Common.{ℕ, zero, suc, ◌<◌, ◌≡◌, refl, List, [], ◌∷◌, map, Bool, true, false, length, ltb, sym, ap, ◌∙◌, ltb-true, ltb-false, arith, Option, Some}
 use mathlib.Core.List.Memᴰ.{cast as mem-cast}
 use mathlib.Core.List.Memᴰ.{head}
 use mathlib.Core.List.Memᴰ.{tail}
 use mathlib.Core.List.{Memᴰ as Mem}
-use Rattle.meaning.specs.Tests.{Opt, some}
 use Rattle.meaning.specs.Lists.{map_map}
 use Rattle.meaning.specs.Graph.{Graph, node, nodes_of, ids, lookup, WellFormed}
 use Rattle.meaning.specs.Pattern.{PNode, var, op, Pattern, Ordered, node_of, root}
@@ -24,29 +22,29 @@ pub record Grows (g h : Graph) (φ : ℕ → ℕ) : Type 0 where
   pub nodes : (o : ℕ) (ks : List ℕ) (c : ℕ) → Mem (node o ks) (nodes_of g c) → Mem (node o (map φ ks)) (nodes_of h (φ c))
   pub classes : (c : ℕ) → Mem c (ids g) → Mem (φ c) (ids h)
 
-looked : {g h : Graph} {φ : ℕ → ℕ} → WellFormed g → WellFormed h → Grows g h φ → (o : ℕ) (ks : List ℕ) (c : ℕ) → lookup g o ks ≡ some c → lookup h o (map φ ks) ≡ some (φ c)
+looked : {g h : Graph} {φ : ℕ → ℕ} → WellFormed g → WellFormed h → Grows g h φ → (o : ℕ) (ks : List ℕ) (c : ℕ) → lookup g o ks ≡ Some c → lookup h o (map φ ks) ≡ Some (φ c)
 looked {g} {h} {φ} w u m o ks c e = (reads h u).found o (map φ ks) (φ c) (m.nodes o ks c ((reads g w).listed o ks c e))
 
-images : (φ : ℕ → ℕ) (f h : ℕ → Opt ℕ) (cs ks : List ℕ) → ((c k : ℕ) → Mem c cs → f c ≡ some k → h c ≡ some (φ k)) → map f cs ≡ map some ks → map h cs ≡ map some (map φ ks)
+images : (φ : ℕ → ℕ) (f h : ℕ → Option ℕ) (cs ks : List ℕ) → ((c k : ℕ) → Mem c cs → f c ≡ Some k → h c ≡ Some (φ k)) → map f cs ≡ map Some ks → map h cs ≡ map Some (map φ ks)
 images φ f h [] [] s e = refl
 images φ f h [] (k ∷ ks) s e = cc
 images φ f h (c ∷ cs) [] s e = cc
 images φ f h (c ∷ cs) (k ∷ ks) s e =
-    let first : f c ≡ some k = cc in let rest : map f cs ≡ map some ks = cc in
+    let first : f c ≡ Some k = cc in let rest : map f cs ≡ map Some ks = cc in
     cc (s c k (head refl) first, images φ f h cs ks (λ d j m. s d j (tail m)) rest)
 
 module _ {g h : Graph} {φ : ℕ → ℕ} (w : WellFormed g) (u : WellFormed h) (m : Grows g h φ) {p : Pattern} (o : Ordered p) where
-  grown : (σ : ℕ → ℕ) (f n c : ℕ) → n < f → inst g p σ n ≡ some c → inst h p (λ v. φ (σ v)) n ≡ some (φ c)
+  grown : (σ : ℕ → ℕ) (f n c : ℕ) → n < f → inst g p σ n ≡ Some c → inst h p (λ v. φ (σ v)) n ≡ Some (φ c)
   grown σ zero n c l e = absurd (omega arith)
   grown σ (suc f) n c l e = go (ltb n (length p)) refl (node_of p n) refl (λ d k i s. grown σ f d k i s)
     where
       go : (b : Bool) → ltb n (length p) ≡ b → (x : PNode) → node_of p n ≡ x
-          → ((d k : ℕ) → d < f → inst g p σ d ≡ some k → inst h p (λ v. φ (σ v)) d ≡ some (φ k)) → inst h p (λ v. φ (σ v)) n ≡ some (φ c)
+          → ((d k : ℕ) → d < f → inst g p σ d ≡ Some k → inst h p (λ v. φ (σ v)) d ≡ Some (φ k)) → inst h p (λ v. φ (σ v)) n ≡ Some (φ c)
       go false i x s ih = cc (inst_out o g σ n (ltb-false n (length p) i))
       go true i (var v) s ih =
           let st : Stands p n (var v) = record { inside = ltb-true n (length p) i; same = s } in
           let k : σ v ≡ c = cc (inst_var o g σ n v st) in
-          inst_var o h (λ v. φ (σ v)) n v st ∙ ap (λ z. some (φ z)) k
+          inst_var o h (λ v. φ (σ v)) n v st ∙ ap (λ z. Some (φ z)) k
       go true i (op a cs) s ih =
           let st : Stands p n (op a cs) = record { inside = ltb-true n (length p) i; same = s } in
           let (ks, t, k) = some_all (map (inst g p σ) cs) (lookup g a) c (sym (inst_op o g σ n a cs st) ∙ e) in
@@ -56,7 +54,7 @@ module _ {g h : Graph} {φ : ℕ → ℕ} (w : WellFormed g) (u : WellFormed h) 
           ∙ looked w u m a ks c k
 
   -- DEMAND 3: an instance is kept
-  pub grows : (σ : ℕ → ℕ) (n c : ℕ) → inst g p σ n ≡ some c → inst h p (λ v. φ (σ v)) n ≡ some (φ c)
+  pub grows : (σ : ℕ → ℕ) (n c : ℕ) → inst g p σ n ≡ Some c → inst h p (λ v. φ (σ v)) n ≡ Some (φ c)
   grows σ n c e = grown σ (suc n) n c (omega arith) e
 
   -- and so is a row

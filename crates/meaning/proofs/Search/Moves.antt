@@ -1,6 +1,5 @@
 -- What each kind of step does to the assignments that solve a state. Assumes nothing.
-use Rattle.std.specs.Prelude.{ℕ, ◌<◌, ◌≡◌, refl, List, [], ◌∷◌, ◌++◌, map, true, length}
-use Rattle.std.proofs.Common.{sym, ap, ◌∙◌, ap₂, eqb-true, eq-eqb}
+use Rattle.std.proofs.Common.{ℕ, ◌<◌, ◌≡◌, refl, List, [], ◌∷◌, ◌++◌, map, true, length, sym, ap, ◌∙◌, ap₂, eqb-true, eq-eqb, Some}
 use mathlib.Core.List.Memᴰ.{cast as mem-cast}
 use mathlib.Core.List.Memᴰ.{eq_of_singleton as only}
 use mathlib.Core.List.Memᴰ.{head}
@@ -8,7 +7,7 @@ use mathlib.Core.List.{Memᴰ as Mem}
 use Rattle.std.proofs.lemmas.List.{length-map}
 use Rattle.std.proofs.Math.Seq.{get_or-append_seam}
 use Rattle.meaning.specs.declared.Reg.{Reg}
-use Rattle.meaning.specs.Tests.{some, and_left, and_right, and_both}
+use Rattle.meaning.specs.Tests.{and_left, and_right, and_both}
 use Rattle.meaning.specs.Lists.{All, nil, cons, NoDup, Took, took_all, put_all, all_append, all_split, all_at, all_of, nodup_one, from_map, all_map2}
 use Rattle.meaning.specs.Graph.{Graph, Node, node, nodes_of, ids, lookup, fits}
 use Rattle.meaning.specs.Pattern.{var, op, Pattern, free}
@@ -43,22 +42,22 @@ module _ {g : Graph} {p : Pattern} (means : Means g p) {R : List Root} {x : Item
   -- a variable met first
   pub new_up : (v : ℕ) → Stands p x.node (var v) → Solves g p R r (B ++ (held v x.reg ∷ [])) ρ σ → Solves g p R l B ρ σ
   new_up v st s = let (a, b) = all_split B s.binds in
-      record { roots = s.roots; items = put_all t (means.of_var σ x.node v st ∙ ap some (all_at b (head refl))) s.items; binds = a }
+      record { roots = s.roots; items = put_all t (means.of_var σ x.node v st ∙ ap Some (all_at b (head refl))) s.items; binds = a }
 
   pub new_down : (v : ℕ) → Stands p x.node (var v) → Solves g p R l B ρ σ → Solves g p R r (B ++ (held v x.reg ∷ [])) ρ σ
   new_down v st s = let (h, a) = took_all t s.items in
-      let e : some (σ v) ≡ some (at ρ x.reg) = sym (means.of_var σ x.node v st) ∙ h in
+      let e : Some (σ v) ≡ Some (at ρ x.reg) = sym (means.of_var σ x.node v st) ∙ h in
       record { roots = s.roots; items = a; binds = all_append s.binds (cons {x = held v x.reg} (cc) nil) }
 
   -- a variable met again, at the register j before
   pub again_up : (v : ℕ) (j : Reg) → Stands p x.node (var v) → Mem (held v j) B → at ρ x.reg ≡ at ρ j → Solves g p R r B ρ σ → Solves g p R l B ρ σ
   again_up v j st m e s = let h : σ v ≡ at ρ j = all_at {P = λ b. σ b.var ≡ at ρ b.reg} s.binds m in
-      record { roots = s.roots; items = put_all t (means.of_var σ x.node v st ∙ ap some (h ∙ sym e)) s.items; binds = s.binds }
+      record { roots = s.roots; items = put_all t (means.of_var σ x.node v st ∙ ap Some (h ∙ sym e)) s.items; binds = s.binds }
 
   pub again_down : (v : ℕ) (j : Reg) → Stands p x.node (var v) → Mem (held v j) B → Solves g p R l B ρ σ → (at ρ x.reg ≡ at ρ j) × Solves g p R r B ρ σ
   again_down v j st m s = let (i, a) = took_all t s.items in
       let h : σ v ≡ at ρ j = all_at {P = λ b. σ b.var ≡ at ρ b.reg} s.binds m in
-      let e : some (σ v) ≡ some (at ρ x.reg) = sym (means.of_var σ x.node v st) ∙ i in
+      let e : Some (σ v) ≡ Some (at ρ x.reg) = sym (means.of_var σ x.node v st) ∙ i in
       let f : σ v ≡ at ρ x.reg = cc in
       (sym f ∙ h, record { roots = s.roots; items = a; binds = s.binds })
 
@@ -86,17 +85,17 @@ fits_is o ks a e = and_both (eq-eqb o o refl) (eq-eqb (length ks) a e)
 module _ {g : Graph} {p : Pattern} (reads : Reads g) (means : Means g p) {R : List Root} {x : Item} {l r : List Item} {B : List Held} {k : ℕ}
     (ρ : List ℕ) (o : ℕ) (cs : List ℕ) (t : Took x l r) (file : File g k ρ) (fit : Fit l B k) (st : Stands p x.node (op o cs)) (σ : ℕ → ℕ) where
   -- the children's instances are the node's children
-  pub spread_kids : (n : Node) → fits o (length cs) n ≡ true → Solves g p R (number k cs ++ r) B (ρ ++ n.kids) σ → map (inst g p σ) cs ≡ map some n.kids
+  pub spread_kids : (n : Node) → fits o (length cs) n ≡ true → Solves g p R (number k cs ++ r) B (ρ ++ n.kids) σ → map (inst g p σ) cs ≡ map Some n.kids
   spread_kids n h s = numbered (inst g p σ) cs n.kids ρ (ρ ++ n.kids) k file.long refl (fits_long o (length cs) n h) (all_split (number k cs) s.items).0
 
   pub spread_up : (n : Node) → Mem n (nodes_of g (at ρ x.reg)) → fits o (length cs) n ≡ true
       → Solves g p R (number k cs ++ r) B (ρ ++ n.kids) σ → Solves g p R l B ρ σ
   spread_up n m h s =
       let is : node o n.kids ≡ n = ap (λ z. node z n.kids) (sym (fits_op o (length cs) n h)) in
-      let e : inst g p σ x.node ≡ some (at ρ x.reg) = means.of_op σ x.node o cs st ∙ rw (spread_kids n h s) (all_some_lem n.kids (lookup g o)) ∙ reads.found o n.kids (at ρ x.reg) (mem-cast is m) in
+      let e : inst g p σ x.node ≡ Some (at ρ x.reg) = means.of_op σ x.node o cs st ∙ rw (spread_kids n h s) (all_some_lem n.kids (lookup g o)) ∙ reads.found o n.kids (at ρ x.reg) (mem-cast is m) in
       record {
         roots = s.roots;
-        items = put_all t e (all_map2 (λ y b i. i ∙ ap some (same_at ρ n.kids k y.reg file.long b)) (took_all t fit.items).1 (all_split (number k cs) s.items).1);
+        items = put_all t e (all_map2 (λ y b i. i ∙ ap Some (same_at ρ n.kids k y.reg file.long b)) (took_all t fit.items).1 (all_split (number k cs) s.items).1);
         binds = all_map2 (λ y b i. i ∙ same_at ρ n.kids k y.reg file.long b) fit.binds s.binds;
       }
 
@@ -110,7 +109,7 @@ module _ {g : Graph} {p : Pattern} (reads : Reads g) (means : Means g p) {R : Li
           record {
             roots = s.roots;
             items = all_append (to_numbered (inst g p σ) cs ks ρ (ρ ++ ks) k file.long refl e)
-                (all_map2 (λ y b i. i ∙ ap some (sym (same_at ρ ks k y.reg file.long b))) (took_all t fit.items).1 a);
+                (all_map2 (λ y b i. i ∙ ap Some (sym (same_at ρ ks k y.reg file.long b))) (took_all t fit.items).1 a);
             binds = all_map2 (λ y b i. i ∙ sym (same_at ρ ks k y.reg file.long b)) fit.binds s.binds;
           },
         ),
@@ -127,9 +126,9 @@ pub join_up : {g : Graph} {p : Pattern} (means : Means g p) {R : List Root} {B :
 join_up {g} {p} means {k = k} q ρ σ v j file fit st m s =
     let e : σ v ≡ at ρ j = all_at {P = λ b. σ b.var ≡ at ρ b.reg} s.binds m in
     let h : j.0 < k = all_at {P = λ b. b.reg.0 < k} fit.binds m in
-    let i : inst g p σ q.top ≡ some (at ρ j) = all_at {P = λ x. inst g p σ x.node ≡ some (at ρ x.reg)} {x = item q.top j} s.items (head refl) in
+    let i : inst g p σ q.top ≡ Some (at ρ j) = all_at {P = λ x. inst g p σ x.node ≡ Some (at ρ x.reg)} {x = item q.top j} s.items (head refl) in
     record {
-      roots = cons (record { class = at ρ j; known = class_at_lem g ρ j file.known (rw file.long h); binder = means.of_var σ q.binder v st ∙ ap some e; top = i }) s.roots;
+      roots = cons (record { class = at ρ j; known = class_at_lem g ρ j file.known (rw file.long h); binder = means.of_var σ q.binder v st ∙ ap Some e; top = i }) s.roots;
       items = nil;
       binds = s.binds;
     }
@@ -141,9 +140,9 @@ join_down {g} {p} means {R} {B} q ρ σ v j st m s = go s.roots
     go : All (λ q. Joined g p σ q) (q ∷ R) → Solves g p R (item q.top j ∷ []) B ρ σ
     go (cons J a) =
         let e : σ v ≡ at ρ j = all_at {P = λ b. σ b.var ≡ at ρ b.reg} s.binds m in
-        let f : some (σ v) ≡ some J.class = sym (means.of_var σ q.binder v st) ∙ J.binder in
+        let f : Some (σ v) ≡ Some J.class = sym (means.of_var σ q.binder v st) ∙ J.binder in
         let h : J.class ≡ at ρ j = cc in
-        record { roots = a; items = cons {x = item q.top j} (J.top ∙ ap some h) nil; binds = s.binds }
+        record { roots = a; items = cons {x = item q.top j} (J.top ∙ ap Some h) nil; binds = s.binds }
 
 -- a new binder: any class
 pub scan_up : {g : Graph} {p : Pattern} {R : List Root} {B : List Held} {k : ℕ} (q : Root) (ρ : List ℕ) (σ : ℕ → ℕ) (c : ℕ)
@@ -153,9 +152,9 @@ scan_up {g} {p} {R} {B} {k} q ρ σ c file fit m s = go s.items
     last : at (ρ ++ (c ∷ [])) (reg k) ≡ c
     last = rw (← file.long) (get_or-append_seam ρ c [] 0)
 
-    go : All (λ x. inst g p σ x.node ≡ some (at (ρ ++ (c ∷ [])) x.reg)) (item q.top (reg k) ∷ item q.binder (reg k) ∷ []) → Solves g p (q ∷ R) [] B ρ σ
+    go : All (λ x. inst g p σ x.node ≡ Some (at (ρ ++ (c ∷ [])) x.reg)) (item q.top (reg k) ∷ item q.binder (reg k) ∷ []) → Solves g p (q ∷ R) [] B ρ σ
     go (cons a (cons b nil)) = record {
-      roots = cons (record { class = c; known = m; binder = b ∙ ap some last; top = a ∙ ap some last }) s.roots;
+      roots = cons (record { class = c; known = m; binder = b ∙ ap Some last; top = a ∙ ap Some last }) s.roots;
       items = nil;
       binds = all_map2 (λ y b i. i ∙ same_at ρ (c ∷ []) k y.reg file.long b) fit.binds s.binds;
     }
@@ -172,7 +171,7 @@ scan_down {g} {p} {R} {B} {k} q ρ σ file fit s = go s.roots
           J.known,
           record {
             roots = a;
-            items = cons {x = item q.top (reg k)} (J.top ∙ ap some (sym last)) (cons {x = item q.binder (reg k)} (J.binder ∙ ap some (sym last)) nil);
+            items = cons {x = item q.top (reg k)} (J.top ∙ ap Some (sym last)) (cons {x = item q.binder (reg k)} (J.binder ∙ ap Some (sym last)) nil);
             binds = all_map2 (λ y b i. i ∙ sym (same_at ρ (J.class ∷ []) k y.reg file.long b)) fit.binds s.binds;
           },
         )
@@ -181,8 +180,8 @@ pub scan_same : {g : Graph} {p : Pattern} {R : List Root} {B : List Held} {k : �
     → Solves g p R (item q.top (reg k) ∷ item q.binder (reg k) ∷ []) B (ρ ++ (a ∷ [])) σ
     → Solves g p R (item q.top (reg k) ∷ item q.binder (reg k) ∷ []) B (ρ ++ (b ∷ [])) σ → a ≡ b
 scan_same {g} {p} {k = k} q ρ σ a b file s t =
-    let i : inst g p σ q.top ≡ some (at (ρ ++ (a ∷ [])) (reg k)) = all_at {P = λ x. inst g p σ x.node ≡ some (at (ρ ++ (a ∷ [])) x.reg)} {x = item q.top (reg k)} s.items (head refl) in
-    let j : inst g p σ q.top ≡ some (at (ρ ++ (b ∷ [])) (reg k)) = all_at {P = λ x. inst g p σ x.node ≡ some (at (ρ ++ (b ∷ [])) x.reg)} {x = item q.top (reg k)} t.items (head refl) in
+    let i : inst g p σ q.top ≡ Some (at (ρ ++ (a ∷ [])) (reg k)) = all_at {P = λ x. inst g p σ x.node ≡ Some (at (ρ ++ (a ∷ [])) x.reg)} {x = item q.top (reg k)} s.items (head refl) in
+    let j : inst g p σ q.top ≡ Some (at (ρ ++ (b ∷ [])) (reg k)) = all_at {P = λ x. inst g p σ x.node ≡ Some (at (ρ ++ (b ∷ [])) x.reg)} {x = item q.top (reg k)} t.items (head refl) in
     let e : at (ρ ++ (a ∷ [])) (reg k) ≡ a = rw (← file.long) (get_or-append_seam ρ a [] 0) in
     let f : at (ρ ++ (b ∷ [])) (reg k) ≡ b = rw (← file.long) (get_or-append_seam ρ b [] 0) in
     cc
@@ -192,6 +191,6 @@ pub mixed : {g : Graph} {p : Pattern} {R : List Root} {l r : List Item} {B : Lis
     → ((x : Item) → Mem x r → Mem x l) → Solves g p R l B ρ σ → Solves g p R r B ρ σ
 mixed {g} {p} {r = r} {ρ = ρ} {σ = σ} f s = record {
   roots = s.roots;
-  items = all_of r (λ x m. all_at {P = λ x. inst g p σ x.node ≡ some (at ρ x.reg)} s.items (f x m));
+  items = all_of r (λ x m. all_at {P = λ x. inst g p σ x.node ≡ Some (at ρ x.reg)} s.items (f x m));
   binds = s.binds;
 }

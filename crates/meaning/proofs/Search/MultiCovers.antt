@@ -1,7 +1,6 @@
 -- The variables of a multipattern's rows are its binders and its patterns' variables. Assumes nothing.
-use Rattle.std.specs.Prelude.{ℕ, zero, suc, ◌+◌, ◌-◌, ◌<◌, ◌≡◌, List, [], ◌∷◌, map, ◌⊎◌, ◌↔◌}
+use Rattle.std.proofs.Common.{ℕ, zero, suc, ◌+◌, ◌-◌, ◌<◌, ◌≡◌, List, [], ◌∷◌, map, ◌⊎◌, ◌↔◌, sym, ap, ◌∙◌, arith}
 use Rattle.std.proofs.Math.Path.{refl, subst}
-use Rattle.std.proofs.Common.{sym, ap, ◌∙◌, arith}
 use mathlib.Core.List.Memᴰ.{cases_cons}
 use mathlib.Core.List.Memᴰ.{eq_of_singleton as only}
 use mathlib.Core.List.Memᴰ.{head}

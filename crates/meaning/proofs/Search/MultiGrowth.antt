@@ -1,6 +1,5 @@
 -- A map that keeps every node keeps the rows of a multipattern. Assumes nothing.
-use Rattle.std.specs.Prelude.{ℕ, ◌≡◌, List, ◌∷◌, map}
-use Rattle.std.proofs.Common.{sym, ap, ◌∙◌}
+use Rattle.std.proofs.Common.{ℕ, ◌≡◌, List, ◌∷◌, map, sym, ap, ◌∙◌}
 use mathlib.Core.List.Memᴰ.{cast as mem-cast}
 use mathlib.Core.List.{Memᴰ as Mem}
 use Rattle.meaning.specs.Lists.{All, nil, cons, map_map}

@@ -1,15 +1,12 @@
 -- The rows of a multipattern are the assignments that meet every pattern, each once. Assumes nothing.
-use Rattle.std.specs.Prelude.{ℕ, zero, suc, ◌+◌, ◌-◌, ◌<◌, ◌≡◌, Bool, true, false, ltb}
+use Rattle.std.proofs.Common.{ℕ, zero, suc, ◌+◌, ◌-◌, ◌<◌, ◌≡◌, Bool, true, false, ltb, sym, ◌∙◌, length-append, ltb-true, ltb-false, add-zero, zero-add, List, [], ◌∷◌, ◌++◌, map, Some}
 use Rattle.std.proofs.Math.Path.{refl, ap}
-use Rattle.std.proofs.Common.{sym, ◌∙◌, length-append, ltb-true, ltb-false, add-zero, zero-add}
-use mathlib.Core.List.{List, [], ◌∷◌, ◌++◌, map}
 use mathlib.Core.List.Memᴰ.{cast as mem-cast}
 use mathlib.Core.List.Memᴰ.{not-nil}
 use mathlib.Core.List.{Memᴰ as Mem}
 use Rattle.std.proofs.Math.ListN.{length, length-map, get_or-append, get_or-map}
 use Rattle.std.proofs.Math.Seq.{get_or-append-add}
 use native.Mathlib.Omega.{arith}
-use Rattle.meaning.specs.Tests.{some}
 use Rattle.meaning.specs.Lists.{All, nil, cons, NoDup, map_map, map_same, from_map}
 use Rattle.meaning.specs.Graph.{Graph, ids, lookup, WellFormed}
 use Rattle.meaning.specs.Pattern.{PNode, var, op, Pattern, node_of, kids_of, Ordered, root, Bound}
@@ -129,9 +126,9 @@ module _ (g : Graph) {P : Pattern} (O : Ordered P) (σ : ℕ → ℕ) where
 
   joined_met : {a : ℕ} {b : Bound} {m : List Bound} → Placed P a (b ∷ m) → Ordered b.pat → Joined g P σ (root_of a b) → Met g σ b
   joined_met {a} {b} l o J =
-      let e : some (σ b.binder) ≡ some J.class = sym (inst_var O g σ a b.binder (placed_binder l)) ∙ J.binder in
+      let e : Some (σ b.binder) ≡ Some J.class = sym (inst_var O g σ a b.binder (placed_binder l)) ∙ J.binder in
       let f : σ b.binder ≡ J.class = cc in
-      record { known = mem-cast f J.known; same = sym (root_inst l o) ∙ J.top ∙ ap some (sym f) }
+      record { known = mem-cast f J.known; same = sym (root_inst l o) ∙ J.top ∙ ap Some (sym f) }
 
   met_joined : {a : ℕ} {b : Bound} {m : List Bound} → Placed P a (b ∷ m) → Ordered b.pat → Met g σ b → Joined g P σ (root_of a b)
   met_joined {a} {b} l o M = record { class = σ b.binder; known = M.known; binder = inst_var O g σ a b.binder (placed_binder l); top = root_inst l o ∙ M.same }
@@ -187,15 +184,15 @@ many_matched {g} w b m (cons o os) before c k = shift
     l : Placed P 0 (b ∷ m)
     l = placed_all (b ∷ m)
 
-    up : (σ : ℕ → ℕ) → All (λ x. inst g P σ x.node ≡ some (at (c ∷ []) x.reg)) (item (0 + length b.pat) (reg 0) ∷ item 0 (reg 0) ∷ []) → All (λ q. Joined g P σ q) (tops (1 + length b.pat) m) → Meets g b m c σ
+    up : (σ : ℕ → ℕ) → All (λ x. inst g P σ x.node ≡ Some (at (c ∷ []) x.reg)) (item (0 + length b.pat) (reg 0) ∷ item 0 (reg 0) ∷ []) → All (λ q. Joined g P σ q) (tops (1 + length b.pat) m) → Meets g b m c σ
     up σ (cons i (cons j nil)) a =
-        let e : some (σ b.binder) ≡ some c = sym (inst_var O g σ 0 b.binder (placed_binder l)) ∙ j in
+        let e : Some (σ b.binder) ≡ Some c = sym (inst_var O g σ 0 b.binder (placed_binder l)) ∙ j in
         record { first = cc; each = cons (joined_met g O σ l o (record { class = c; known = k; binder = j; top = i })) (all_met g O σ (placed_rest l) os a) }
 
     down : (σ : ℕ → ℕ) → σ b.binder ≡ c → All (Met g σ) (b ∷ m) → Solves g P (tops (1 + length b.pat) m) (item (0 + length b.pat) (reg 0) ∷ item 0 (reg 0) ∷ []) [] (c ∷ []) σ
     down σ e (cons M a) = record {
       roots = all_joined g O σ (placed_rest l) os a;
-      items = cons {x = item (0 + length b.pat) (reg 0)} (root_inst g O σ l o ∙ M.same ∙ ap some e) (cons {x = item 0 (reg 0)} (inst_var O g σ 0 b.binder (placed_binder l) ∙ ap some e) nil);
+      items = cons {x = item (0 + length b.pat) (reg 0)} (root_inst g O σ l o ∙ M.same ∙ ap Some e) (cons {x = item 0 (reg 0)} (inst_var O g σ 0 b.binder (placed_binder l) ∙ ap Some e) nil);
       binds = nil;
     }
 

@@ -1,10 +1,8 @@
 -- The rows of a pattern in a class are the assignments under which its root's instance is that class, each once. Assumes nothing.
-use Rattle.std.specs.Prelude.{ℕ, ◌≡◌, refl, List, [], ◌∷◌, ◌↔◌, Bool, length}
-use Rattle.std.proofs.Common.{sym, arith}
+use Rattle.std.proofs.Common.{ℕ, ◌≡◌, refl, List, [], ◌∷◌, ◌↔◌, Bool, length, sym, arith, Some}
 use mathlib.Core.List.Memᴰ.{cast as mem-cast}
 use mathlib.Core.List.Memᴰ.{head}
 use mathlib.Core.List.{Memᴰ as Mem}
-use Rattle.meaning.specs.Tests.{some}
 use Rattle.meaning.specs.Lists.{nil, cons, NoDup, empty, all_at}
 use Rattle.meaning.specs.Graph.{Graph, ids, WellFormed}
 use Rattle.meaning.specs.Pattern.{Pattern, Ordered, root}
@@ -27,12 +25,12 @@ no_vars = empty
 
 -- for any choice of the next item
 pub matched : {g : Graph} {p : Pattern} → WellFormed g → Ordered p → (before : List Held → Item → Item → Bool) (c : ℕ) → Mem c (ids g)
-    → Lists (Known g) (vars (compile_by before p).vars) (run_of g p (compile_by before p) c) (λ σ. inst g p σ (root p) ≡ some c)
+    → Lists (Known g) (vars (compile_by before p).vars) (run_of g p (compile_by before p) c) (λ σ. inst g p σ (root p) ≡ Some c)
 unfolding run_of
 matched {g} {p} w o before c m = shift
     (central (reads g w) (means o g) (compile_right o before) (c ∷ []) (record { long = refl; known = cons m nil })
     (record { items = cons {x = item (root p) (reg 0)} (omega arith) nil; binds = nil; apart = no_vars }))
-    (λ σ s. all_at {P = λ x. inst g p σ x.node ≡ some (at (c ∷ []) x.reg)} {x = item (root p) (reg 0)} s.items (head refl))
+    (λ σ s. all_at {P = λ x. inst g p σ x.node ≡ Some (at (c ∷ []) x.reg)} {x = item (root p) (reg 0)} s.items (head refl))
     (λ σ e. record { roots = nil; items = cons {x = item (root p) (reg 0)} e nil; binds = nil })
 
 -- a row of the right width is there exactly when it is an assignment with the property
@@ -45,6 +43,6 @@ vars_once {p} o = apart (compile_right o (ahead p)) no_vars
 
 -- DEMAND 2
 pub rows_right : {g : Graph} {p : Pattern} → WellFormed g → Ordered p → (c : ℕ) → Mem c (ids g)
-    → Lists (Known g) (vars (compile p).vars) (matches g p c) (λ σ. inst g p σ (root p) ≡ some c)
+    → Lists (Known g) (vars (compile p).vars) (matches g p c) (λ σ. inst g p σ (root p) ≡ Some c)
 unfolding matches compile
 rows_right {p = p} w o c m = matched w o (ahead p) c m

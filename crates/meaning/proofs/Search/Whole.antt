@@ -1,6 +1,5 @@
 -- A search over the whole graph: each class's rows after it, nothing twice. Assumes nothing.
-use Rattle.std.specs.Prelude.{ℕ, ◌≡◌, List, ◌∷◌, map, ◌↔◌}
-use Rattle.std.proofs.Common.{sym, ◌∙◌}
+use Rattle.std.proofs.Common.{ℕ, ◌≡◌, List, ◌∷◌, map, ◌↔◌, sym, ◌∙◌}
 use mathlib.Core.List.Memᴰ.{cast as mem-cast}
 use mathlib.Core.List.{Memᴰ as Mem}
 use Rattle.meaning.specs.Lists.{NoDup, empty, more, from_walk, to_walk, walk_nodup, from_map, mem_map}

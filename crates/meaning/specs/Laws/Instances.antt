@@ -15,7 +15,7 @@ use mathlib.Core.List.{Memᴰ as Mem}
 use Rattle.std.proofs.Math.Bool.{true, false}
 use Rattle.std.proofs.Math.Dec.{ltb}
 use borrow.Author.Tests.{eqb-true, eqb-false, ltb-true, ltb-false}
-use Rattle.meaning.specs.Tests.{none, some}
+use Rattle.std.specs.Prelude.{None, Some}
 use Rattle.meaning.specs.Lists.{NoDup, empty, more, nodup_one, map_same}
 use Rattle.meaning.specs.Graph.{Graph, lookup}
 use Rattle.meaning.specs.Pattern.{PNode, var, op, Pattern, node_of, kids_of, Ordered, insert, union, unions, sum, free_of, free, occ_of, occ}
@@ -150,17 +150,17 @@ module _ {p : Pattern} (o : Ordered p) where
   unfolding occ occ_of
   occ_op {n} s = value_at 0 occ_of occ_local p o n s.inside ∙ rw s.same
 
-  pub inst_var : (g : Graph) (σ : ℕ → ℕ) (n v : ℕ) → Stands p n (var v) → inst g p σ n ≡ some (σ v)
+  pub inst_var : (g : Graph) (σ : ℕ → ℕ) (n v : ℕ) → Stands p n (var v) → inst g p σ n ≡ Some (σ v)
   unfolding inst inst_of
-  inst_var g σ n v s = value_at none (inst_of g σ) (inst_local g σ) p o n s.inside ∙ rw s.same
+  inst_var g σ n v s = value_at None (inst_of g σ) (inst_local g σ) p o n s.inside ∙ rw s.same
 
   pub inst_op : (g : Graph) (σ : ℕ → ℕ) (n f : ℕ) (cs : List ℕ) → Stands p n (op f cs) → inst g p σ n ≡ all_some (map (inst g p σ) cs) (lookup g f)
   unfolding inst inst_of
-  inst_op g σ n f cs s = value_at none (inst_of g σ) (inst_local g σ) p o n s.inside ∙ rw s.same
+  inst_op g σ n f cs s = value_at None (inst_of g σ) (inst_local g σ) p o n s.inside ∙ rw s.same
 
-  pub inst_out : (g : Graph) (σ : ℕ → ℕ) (n : ℕ) → length p ≤ n → inst g p σ n ≡ none
+  pub inst_out : (g : Graph) (σ : ℕ → ℕ) (n : ℕ) → length p ≤ n → inst g p σ n ≡ None
   unfolding inst
-  inst_out g σ n h = value_out none (inst_of g σ) p n h
+  inst_out g σ n h = value_out None (inst_of g σ) p n h
 
   free_out : (n : ℕ) → length p ≤ n → free p n ≡ []
   unfolding free
@@ -177,7 +177,7 @@ module _ {p : Pattern} (o : Ordered p) where
       go false i x s ih = let l = ltb-false n (length p) i in inst_out g σ n l ∙ sym (inst_out g τ n l)
       go true i (var v) s ih =
           let st : Stands p n (var v) = record { inside = ltb-true n (length p) i; same = s } in
-          inst_var g σ n v st ∙ ap some (e v (rw (free_var st) (head refl))) ∙ sym (inst_var g τ n v st)
+          inst_var g σ n v st ∙ ap Some (e v (rw (free_var st) (head refl))) ∙ sym (inst_var g τ n v st)
       go true i (op a cs) s ih =
           let st : Stands p n (op a cs) = record { inside = ltb-true n (length p) i; same = s } in
           let low : (c : ℕ) → Mem c cs → c < n = λ c m. o.below n c st.inside (rw s m) in

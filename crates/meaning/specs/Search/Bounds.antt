@@ -6,7 +6,8 @@ use Rattle.std.specs.Prelude.{Bool, true, false, cond, not}
 use Rattle.std.proofs.Math.ListN.{length, length-append}
 use native.Mathlib.Omega.{arith}
 use Rattle.meaning.specs.declared.Reg.{Reg}
-use Rattle.meaning.specs.Tests.{Opt, none, some, and}
+use Rattle.std.specs.Prelude.{Option, None, Some}
+use Rattle.meaning.specs.Tests.{and}
 use Rattle.meaning.specs.Lists.{All, cons, Took, took_all}
 use Rattle.meaning.specs.Pattern.{PNode, var, op, Pattern, node_of, Ordered, occ, sum}
 use Rattle.meaning.specs.Program.{bind, lookat, reg, Held, held}
@@ -58,11 +59,11 @@ one_more B b = length-append B (b ∷ [])
 
 module _ {p : Pattern} (o : Ordered p) where
   -- a variable met, in a list or waiting
-  var_bounded : (v : ℕ) (s : Opt Reg) (r : Reg) (R : List Root) (q₀ t₀ q t : List Item) (B : List Held) (k : ℕ)
+  var_bounded : (v : ℕ) (s : Option Reg) (r : Reg) (R : List Root) (q₀ t₀ q t : List Item) (B : List Held) (k : ℕ)
       → work p R q t + 1 ≤ work p R q₀ t₀ → width p R q t k ≤ width p R q₀ t₀ k → Bounded p R q₀ t₀ B k (met_var v r s R q t B k)
   unfolding met_var
-  var_bounded v none r R q₀ t₀ q t B k h w = let e = one_more B (held v r) in record { code = omega arith; vars = omega arith; regs = w }
-  var_bounded v (some j) r R q₀ t₀ q t B k h w = record { code = omega arith; vars = omega arith; regs = w }
+  var_bounded v None r R q₀ t₀ q t B k h w = let e = one_more B (held v r) in record { code = omega arith; vars = omega arith; regs = w }
+  var_bounded v (Some j) r R q₀ t₀ q t B k h w = record { code = omega arith; vars = omega arith; regs = w }
 
   met_work : (x : Item) (v : ℕ) (R : List Root) (q t : List Item) (k : ℕ) → Stands p x.node (var v)
       → (work p R q t + 1 ≤ work p R (x ∷ q) t) × (width p R q t k ≤ width p R (x ∷ q) t k)
@@ -120,10 +121,10 @@ module _ {p : Pattern} (o : Ordered p) where
   join_work q R j k = (omega arith, omega arith)
 
   -- a binder adds one variable at the most
-  once_more : (v : ℕ) (r : Reg) (s : Opt Reg) (B : List Held) → length (bind_once v r s B) ≤ length B + 1
+  once_more : (v : ℕ) (r : Reg) (s : Option Reg) (B : List Held) → length (bind_once v r s B) ≤ length B + 1
   unfolding bind_once
-  once_more v r none B = let e = one_more B (held v r) in omega arith
-  once_more v r (some j) B = omega arith
+  once_more v r None B = let e = one_more B (held v r) in omega arith
+  once_more v r (Some j) B = omega arith
 
   -- a root met at a new register, before its Scan is counted
   pub record EnterBounded (q : Root) (R : List Root) (B : List Held) (k : ℕ) (s : Step) : Type 0 where
@@ -138,10 +139,10 @@ module _ {p : Pattern} (o : Ordered p) where
       record { code = omega arith; vars = omega arith; regs = w.1 }
   enter_bounded (var u) v q R B k e h = go (reg_of B u)
     where
-      go : (s : Opt Reg) → EnterBounded q R B k (entered v (reg k) (met_var u (reg k) s R [] [] B (suc k)))
-      go none = let w = lone_work q R k h in let y = w.0 in let z = once_more v (reg k) (reg_of (B ++ (held u (reg k) ∷ [])) v) (B ++ (held u (reg k) ∷ [])) in let l = one_more B (held u (reg k)) in
+      go : (s : Option Reg) → EnterBounded q R B k (entered v (reg k) (met_var u (reg k) s R [] [] B (suc k)))
+      go None = let w = lone_work q R k h in let y = w.0 in let z = once_more v (reg k) (reg_of (B ++ (held u (reg k) ∷ [])) v) (B ++ (held u (reg k) ∷ [])) in let l = one_more B (held u (reg k)) in
           record { code = omega arith; vars = omega arith; regs = w.1 }
-      go (some j) = let w = lone_work q R k h in let y = w.0 in let z = once_more v (reg k) (reg_of B v) B in
+      go (Some j) = let w = lone_work q R k h in let y = w.0 in let z = once_more v (reg k) (reg_of B v) B in
           record { code = omega arith; vars = omega arith; regs = w.1 }
 
   rooted_bounded : (n : PNode) (q : Root) (R : List Root) (B : List Held) (k : ℕ) → node_of p q.binder ≡ n → q.top < length p → (v : ℕ) → n ≡ var v → Bounded p (q ∷ R) [] [] B k (rooted p n q R B k)
@@ -149,9 +150,9 @@ module _ {p : Pattern} (o : Ordered p) where
   rooted_bounded (op f cs) q R B k e h v s = absurd (let z : ◌≡◌ {A = ℕ} 0 1 = cc in omega arith)
   rooted_bounded (var u) q R B k e h v s = go (reg_of B u)
     where
-      go : (s : Opt Reg) → Bounded p (q ∷ R) [] [] B k (joined p u s q R B k)
-      go (some j) = let w = join_work q R j k in let y = w.0 in record { code = omega arith; vars = omega arith; regs = w.1 }
-      go none = let w = enter_bounded (node_of p q.top) u q R B k refl h in let y = w.code in let z = w.vars in record { code = omega arith; vars = z; regs = w.regs }
+      go : (s : Option Reg) → Bounded p (q ∷ R) [] [] B k (joined p u s q R B k)
+      go (Some j) = let w = join_work q R j k in let y = w.0 in record { code = omega arith; vars = omega arith; regs = w.1 }
+      go None = let w = enter_bounded (node_of p q.top) u q R B k refl h in let y = w.code in let z = w.vars in record { code = omega arith; vars = z; regs = w.regs }
 
   pub bounded : (before : List Held → Item → Item → Bool) (R : List Root) (q t : List Item) (B : List Held) (k : ℕ) → Sane p R q t → Bounded p R q t B k (step_of p before R q t B k)
   unfolding step_of

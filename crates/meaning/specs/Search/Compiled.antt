@@ -4,7 +4,7 @@ use Rattle.std.proofs.Math.Path.{refl}
 use Rattle.std.proofs.Common.{sym, ap, le_trans}
 use mathlib.Core.List.{List, [], ◌∷◌, ◌++◌}
 use native.Mathlib.Omega.{arith}
-use Rattle.meaning.specs.Tests.{none}
+use Rattle.std.specs.Prelude.{None}
 use Rattle.meaning.specs.Lists.{All, nil, cons}
 use Rattle.meaning.specs.Pattern.{var, Pattern, Ordered, root, occ, node_of}
 use Rattle.meaning.specs.Program.{Held, reg}
@@ -57,7 +57,7 @@ compile_roots_right {p} o before q R v st h a =
     let e = first in let l = e.less in
     e.leads _ _ (go_right o before (root_load p (q ∷ R)) (enter p v q R [] 0).to (le_trans l (enough p q R)) e.sane)
   where
-    nothing_bound : reg_of [] v ≡ none
+    nothing_bound : reg_of [] v ≡ None
     nothing_bound = unfold reg_of in refl
 
     first : Entered p q R [] 0 (enter p v q R [] 0)

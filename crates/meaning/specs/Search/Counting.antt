@@ -11,7 +11,8 @@ use mathlib.Core.List.Memᴰ.{tail}
 use mathlib.Core.List.{Memᴰ as Mem}
 use Rattle.std.proofs.lemmas.List.{length-map}
 use Rattle.meaning.specs.declared.Reg.{Reg}
-use Rattle.meaning.specs.Tests.{Opt, none, some, apart}
+use Rattle.std.specs.Prelude.{Option, None, Some}
+use Rattle.meaning.specs.Tests.{apart}
 use Rattle.meaning.specs.Lists.{NoDup, empty, more, took_rest, took_mem, mem_map, from_map}
 use Rattle.meaning.specs.Ranges.{from, keep}
 use Rattle.meaning.specs.Masks.{count}
@@ -31,16 +32,16 @@ same_long (x ∷ a) b (more n d) e f g =
     let q = same_long a r d u (λ y k. ⊎_elim (λ s. absurd (n (mem-cast (sym s) k))) (λ z. z) (took_mem t (f y (tail k)))) (λ y k. ⊎_elim (λ s. absurd (m (mem-cast (sym s) k))) (λ z. z) (cases_cons (g y (took_rest t k)))) in
     ap suc q ∙ sym (took_length t)
 
-unfoldable is_none : Opt Reg → Bool
-is_none none = true
-is_none (some r) = false
+unfoldable is_none : Option Reg → Bool
+is_none None = true
+is_none (Some r) = false
 
-none_is : (s : Opt Reg) → is_none s ≡ true → s ≡ none
+none_is : (s : Option Reg) → is_none s ≡ true → s ≡ None
 unfolding is_none
-none_is none h = refl
-none_is (some r) h = apart (sym h)
+none_is None h = refl
+none_is (Some r) h = apart (sym h)
 
-is_none_lem : (s : Opt Reg) → s ≡ none → is_none s ≡ true
+is_none_lem : (s : Option Reg) → s ≡ None → is_none s ≡ true
 unfolding is_none
 is_none_lem s e = rw e
 
@@ -49,10 +50,10 @@ unfolding unbound_in keep
 unbound_keep B [] = refl
 unbound_keep B (v ∷ l) = go (reg_of B v) (unbound_keep B l)
   where
-    go : (s : Opt Reg) → unbound_in B l ≡ length (keep (λ v. is_none (reg_of B v)) l)
+    go : (s : Option Reg) → unbound_in B l ≡ length (keep (λ v. is_none (reg_of B v)) l)
         → more_if_none s (unbound_in B l) ≡ length (cond (is_none s) (v ∷ keep (λ v. is_none (reg_of B v)) l) (keep (λ v. is_none (reg_of B v)) l))
-    go none e = unfold more_if_none is_none in ap suc e
-    go (some r) e = unfold more_if_none is_none in e
+    go None e = unfold more_if_none is_none in ap suc e
+    go (Some r) e = unfold more_if_none is_none in e
 
 keep_once : {A : Type 0} (p : A → Bool) {l : List A} → NoDup l → NoDup (keep p l)
 unfolding keep
@@ -77,8 +78,8 @@ map_once f (x ∷ l) i (more n d) = more (λ m. let (y, k, e) = from_map f l m i
 
 -- the members of a set of places, each with its variable, are the variables not yet bound
 pub unbound_count : (B : List Held) (l : List ℕ) (f : ℕ → ℕ) (q : ℕ → Bool) (w : ℕ) → NoDup l
-    → ((i : ℕ) → i < w → q i ≡ true → Mem (f i) l × (reg_of B (f i) ≡ none))
-    → ((v : ℕ) → Mem v l → reg_of B v ≡ none → (i : ℕ) × (i < w) × (q i ≡ true) × (f i ≡ v))
+    → ((i : ℕ) → i < w → q i ≡ true → Mem (f i) l × (reg_of B (f i) ≡ None))
+    → ((v : ℕ) → Mem v l → reg_of B v ≡ None → (i : ℕ) × (i < w) × (q i ≡ true) × (f i ≡ v))
     → ((i j : ℕ) → q i ≡ true → q j ≡ true → f i ≡ f j → i ≡ j)
     → count q w ≡ unbound_in B l
 unbound_count B l f q w d sound complete differ =

@@ -1,7 +1,7 @@
 -- When an assignment solves a compiler's state at a register file, and what the proof may use. Assumes nothing.
 use Rattle.std.specs.Prelude.{ℕ, ◌<◌, ◌≡◌, List, map, length}
 use mathlib.Core.List.{Memᴰ as Mem}
-use Rattle.meaning.specs.Tests.{some}
+use Rattle.std.specs.Prelude.{Some}
 use Rattle.meaning.specs.Lists.{NoDup, All}
 use Rattle.meaning.specs.Graph.{Graph, lookup, ids}
 use Rattle.meaning.specs.Pattern.{var, op, Pattern, free}
@@ -12,7 +12,7 @@ use Rattle.meaning.specs.Search.Order.{Stands}
 
 -- what it may know of instances
 pub record Means (g : Graph) (p : Pattern) : Type 0 where
-  pub of_var : (σ : ℕ → ℕ) (n v : ℕ) → Stands p n (var v) → inst g p σ n ≡ some (σ v)
+  pub of_var : (σ : ℕ → ℕ) (n v : ℕ) → Stands p n (var v) → inst g p σ n ≡ Some (σ v)
   pub of_op : (σ : ℕ → ℕ) (n o : ℕ) (cs : List ℕ) → Stands p n (op o cs) → inst g p σ n ≡ all_some (map (inst g p σ) cs) (lookup g o)
   pub of_free : (σ τ : ℕ → ℕ) (n : ℕ) → ((v : ℕ) → Mem v (free p n) → σ v ≡ τ v) → inst g p σ n ≡ inst g p τ n
 
@@ -20,13 +20,13 @@ pub record Means (g : Graph) (p : Pattern) : Type 0 where
 pub record Joined (g : Graph) (p : Pattern) (σ : ℕ → ℕ) (q : Root) : Type 0 where
   pub class : ℕ
   pub known : Mem class (ids g)
-  pub binder : inst g p σ q.binder ≡ some class
-  pub top : inst g p σ q.top ≡ some class
+  pub binder : inst g p σ q.binder ≡ Some class
+  pub top : inst g p σ q.top ≡ Some class
 
 -- σ solves the state: roots to come, items at their registers, variables at theirs
 pub record Solves (g : Graph) (p : Pattern) (R : List Root) (l : List Item) (B : List Held) (ρ : List ℕ) (σ : ℕ → ℕ) : Type 0 where
   pub roots : All (λ q. Joined g p σ q) R
-  pub items : All (λ x. inst g p σ x.node ≡ some (at ρ x.reg)) l
+  pub items : All (λ x. inst g p σ x.node ≡ Some (at ρ x.reg)) l
   pub binds : All (λ b. σ b.var ≡ at ρ b.reg) B
 
 -- every register named is there, and no variable is bound twice

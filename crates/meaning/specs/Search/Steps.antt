@@ -16,7 +16,8 @@ use Rattle.std.proofs.Math.Logic.{⊎_elim}
 use Rattle.std.proofs.Math.ListN.{length}
 use native.Mathlib.Omega.{arith}
 use Rattle.meaning.specs.declared.Reg.{Reg}
-use Rattle.meaning.specs.Tests.{Opt, none, some, and, and_left}
+use Rattle.std.specs.Prelude.{Option, None, Some}
+use Rattle.meaning.specs.Tests.{and, and_left}
 use Rattle.meaning.specs.Lists.{All, nil, cons, Took, here, there, took_all, all_append}
 use Rattle.meaning.specs.Pattern.{PNode, var, op, Pattern, node_of, Ordered, free}
 use Rattle.meaning.specs.Program.{Instr, bind, lookat, Held, held, reg}
@@ -77,11 +78,11 @@ number_sane p [] k f = nil
 number_sane p (c ∷ cs) k f = cons {x = item c (reg k)} (f c (head refl)) (number_sane p cs (suc k) (λ d m. f d (tail m)))
 
 module _ {p : Pattern} (o : Ordered p) where
-  var_stepped : (v : ℕ) (s : Opt Reg) (x : Item) (R : List Root) (q₀ t₀ q t : List Item) (B : List Held) (k : ℕ) → reg_of B v ≡ s → Stands p x.node (var v)
+  var_stepped : (v : ℕ) (s : Option Reg) (x : Item) (R : List Root) (q₀ t₀ q t : List Item) (B : List Held) (k : ℕ) → reg_of B v ≡ s → Stands p x.node (var v)
       → Took x (q₀ ++ t₀) (q ++ t) → Sane p R q t → measure p R q t < measure p R q₀ t₀ → Stepped p R q₀ t₀ B k (met_var v x.reg s R q t B k)
   unfolding met_var
-  var_stepped v none x R q₀ t₀ q t B k e st k₀ sane l = record { leads = λ is H d. new st k₀ (reg_none B v e) d; sane = sane; less = omega arith }
-  var_stepped v (some j) x R q₀ t₀ q t B k e st k₀ sane l = record { leads = λ is H d. again st k₀ (reg_mem B v j e) d; sane = sane; less = omega arith }
+  var_stepped v None x R q₀ t₀ q t B k e st k₀ sane l = record { leads = λ is H d. new st k₀ (reg_none B v e) d; sane = sane; less = omega arith }
+  var_stepped v (Some j) x R q₀ t₀ q t B k e st k₀ sane l = record { leads = λ is H d. again st k₀ (reg_mem B v j e) d; sane = sane; less = omega arith }
 
   met_stepped : (n : PNode) (x : Item) (R : List Root) (q t : List Item) (B : List Held) (k : ℕ) → node_of p x.node ≡ n → Sane p R (x ∷ q) t → Stepped p R (x ∷ q) t B k (met n x R q t B k)
   unfolding met
@@ -136,13 +137,13 @@ module _ {p : Pattern} (o : Ordered p) where
           kid_in c m = let h = o.below x.node c in_p (kid_of e m) in omega (arith, in_p)
 
   -- the binder is bound, or its root was that variable
-  bind_right : (v : ℕ) (r : Reg) {n k : ℕ} {B H : List Held} {R : List Root} {l t : List Item} {is : List Instr} (s : Opt Reg) → reg_of B v ≡ s → ((j : Reg) → reg_of B v ≡ some j → Mem (held v r) B)
+  bind_right : (v : ℕ) (r : Reg) {n k : ℕ} {B H : List Held} {R : List Root} {l t : List Item} {is : List Instr} (s : Option Reg) → reg_of B v ≡ s → ((j : Reg) → reg_of B v ≡ Some j → Mem (held v r) B)
       → Stands p n (var v) → Took (item n r) l t → Compiles p R t (bind_once v r s B) k is H → Compiles p R l B k is H
   unfolding bind_once
-  bind_right v r {B} none e f st w d = new st w (reg_none B v e) d
-  bind_right v r (some j) e f st w d = same st w (f j e) d
+  bind_right v r {B} None e f st w d = new st w (reg_none B v e) d
+  bind_right v r (Some j) e f st w d = same st w (f j e) d
 
-  pub enter_stepped : (x : PNode) (v : ℕ) (q : Root) (R : List Root) (B : List Held) (k : ℕ) → node_of p q.top ≡ x → q.top < length p → Stands p q.binder (var v) → reg_of B v ≡ none
+  pub enter_stepped : (x : PNode) (v : ℕ) (q : Root) (R : List Root) (B : List Held) (k : ℕ) → node_of p q.top ≡ x → q.top < length p → Stands p q.binder (var v) → reg_of B v ≡ None
       → All (λ (r : Root). (v : ℕ) × Stands p r.binder (var v) × (r.top < length p)) R → Entered p q R B k (entered v (reg k) (met x (item q.top (reg k)) R [] [] B (suc k)))
   unfolding entered met met_var
   enter_stepped (op f cs) v q R B k e h st free a = record {
@@ -152,19 +153,19 @@ module _ {p : Pattern} (o : Ordered p) where
   }
   enter_stepped (var u) v q R B k e h st free a = go (reg_of B u) refl
     where
-      go : (s : Opt Reg) → reg_of B u ≡ s → Entered p q R B k (entered v (reg k) (met_var u (reg k) s R [] [] B (suc k)))
-      go (some j) g = record {
+      go : (s : Option Reg) → reg_of B u ≡ s → Entered p q R B k (entered v (reg k) (met_var u (reg k) s R [] [] B (suc k)))
+      go (Some j) g = record {
         leads = λ is H d. again (stands (var u) h e) here (reg_mem B u j g) (bind_right v (reg k) (reg_of B v) refl (λ j g. absurd (let z : ◌≡◌ {A = ℕ} 0 1 = cc in omega arith)) st here d);
         sane = record { roots = a; meet = nil; todo = nil };
         less = less_none p q R;
       }
-      go none g = record {
+      go None g = record {
         leads = λ is H d. new (stands (var u) h e) here (reg_none B u g) (bind_right v (reg k) (reg_of (B ++ (held u (reg k) ∷ [])) v) refl held_at st here d);
         sane = record { roots = a; meet = nil; todo = nil };
         less = less_none p q R;
       }
         where
-          held_at : (j : Reg) → reg_of (B ++ (held u (reg k) ∷ [])) v ≡ some j → Mem (held v (reg k)) (B ++ (held u (reg k) ∷ []))
+          held_at : (j : Reg) → reg_of (B ++ (held u (reg k) ∷ [])) v ≡ Some j → Mem (held v (reg k)) (B ++ (held u (reg k) ∷ []))
           held_at j i = ⊎_elim (λ m. absurd (reg_none B v free (mem_var m))) (λ m. mem-right B (head (ap (λ (b : Held). held b.var (reg k)) (only m)))) (mem-cases B (reg_mem (B ++ (held u (reg k) ∷ [])) v j i))
 
   -- a pattern of a multipattern
@@ -176,13 +177,13 @@ module _ {p : Pattern} (o : Ordered p) where
       go (cons h a) = let f = h.1.same in let z : ◌≡◌ {A = ℕ} 0 1 = cc in omega arith
   rooted_stepped (var v) q R B k e sane = go sane.roots (reg_of B v) refl
     where
-      go : All (λ (r : Root). (v : ℕ) × Stands p r.binder (var v) × (r.top < length p)) (q ∷ R) → (s : Opt Reg) → reg_of B v ≡ s → Stepped p (q ∷ R) [] [] B k (joined p v s q R B k)
-      go (cons h a) (some j) g = record {
+      go : All (λ (r : Root). (v : ℕ) × Stands p r.binder (var v) × (r.top < length p)) (q ∷ R) → (s : Option Reg) → reg_of B v ≡ s → Stepped p (q ∷ R) [] [] B k (joined p v s q R B k)
+      go (cons h a) (Some j) g = record {
         leads = λ is H d. join (stands (var v) h.1.inside e) (reg_mem B v j g) d;
         sane = record { roots = a; meet = cons {x = item q.top j} h.2 nil; todo = nil };
         less = less_join p q R j;
       }
-      go (cons h a) none g = let s = enter_stepped (node_of p q.top) v q R B k refl h.2 (stands (var v) h.1.inside e) g a in
+      go (cons h a) None g = let s = enter_stepped (node_of p q.top) v q R B k refl h.2 (stands (var v) h.1.inside e) g a in
           record { leads = λ is H d. scans (s.leads is H d); sane = s.sane; less = s.less }
 
   pub stepped : (before : List Held → Item → Item → Bool) (R : List Root) (q t : List Item) (B : List Held) (k : ℕ) → Sane p R q t → Stepped p R q t B k (step_of p before R q t B k)

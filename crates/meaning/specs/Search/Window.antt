@@ -8,7 +8,8 @@ use Rattle.std.specs.Int.Count.{ones}
 use Rattle.std.proofs.Math.Pow.{pow-lt}
 use Rattle.std.proofs.lemmas.Bool.{not-true}
 use Rattle.meaning.specs.declared.Reg.{Reg}
-use Rattle.meaning.specs.Tests.{Opt, none, some, and, apart, and_left, and_right, and_both, not_true_false}
+use Rattle.std.specs.Prelude.{Option, None, Some}
+use Rattle.meaning.specs.Tests.{and, apart, and_left, and_right, and_both, not_true_false}
 use Rattle.meaning.specs.Lists.{NoDup}
 use Rattle.meaning.specs.Words.{word}
 use Rattle.meaning.specs.Pattern.{var, op, Pattern, node_of}
@@ -83,12 +84,12 @@ pub record BoundSet (w : List ℕ) (b : ℕ) (B : List Held) : Type 0 where
 abbrev pub OnePlace : List ℕ → Type 0
 OnePlace w = (i j : ℕ) → i < word w 0 → j < word w 0 → kind_at w i ≡ 0 → kind_at w j ≡ 0 → number_at w i ≡ number_at w j → i ≡ j
 
-not_bound : (B : List Held) (v : ℕ) → (Mem v (vars B) → ⊥) → reg_of B v ≡ none
+not_bound : (B : List Held) (v : ℕ) → (Mem v (vars B) → ⊥) → reg_of B v ≡ None
 not_bound B v n = go (reg_of B v) refl
   where
-    go : (s : Opt Reg) → reg_of B v ≡ s → s ≡ none
-    go none e = refl
-    go (some r) e = absurd (n (mem_var (reg_mem B v r e)))
+    go : (s : Option Reg) → reg_of B v ≡ s → s ≡ None
+    go None e = refl
+    go (Some r) e = absurd (n (mem_var (reg_mem B v r e)))
 
 -- THE COUNT: ones of the free variables' set without the bound ones, as many as variables not yet bound
 pub ones_unbound : (w : List ℕ) (m b : ℕ) (B : List Held) (l : List ℕ) → word w 0 ≤ 64 → OnePlace w → NoDup l → Places w m (λ v. Mem v l) → BoundSet w b B

@@ -2,7 +2,8 @@
 use Rattle.std.specs.Prelude.{ℕ, suc, ◌+◌, ◌≡◌, refl, List, [], ◌∷◌, ◌++◌, Bool, true, false, cond, not, length}
 use Rattle.std.proofs.Common.{sym, ap, ◌∙◌, append_assoc}
 use Rattle.meaning.specs.declared.Reg.{Reg}
-use Rattle.meaning.specs.Tests.{Opt, none, some, and}
+use Rattle.std.specs.Prelude.{Option, None, Some}
+use Rattle.meaning.specs.Tests.{and}
 use Rattle.meaning.specs.Pattern.{PNode, var, op, Pattern, node_of, Ordered}
 use Rattle.meaning.specs.Program.{Instr, bind, lookat, reg, Held}
 use Rattle.meaning.specs.Compiler.{Item, item, Root, State, state, Step, step, Prog, prog, reg_of, is_ground, choose, is_leaf, number, met_var, met, taken, entered, enter, after, joined, rooted, step_of}
@@ -20,10 +21,10 @@ unfolding grown_by
 grown_append k [] js = refl
 grown_append k (x ∷ is) js = grown_append (grown k x) is js
 
-var_next : (v : ℕ) (r : Reg) (s : Opt Reg) (R : List Root) (q t : List Item) (B : List Held) (k : ℕ) → (met_var v r s R q t B k).to.next ≡ grown_by k (met_var v r s R q t B k).emits
+var_next : (v : ℕ) (r : Reg) (s : Option Reg) (R : List Root) (q t : List Item) (B : List Held) (k : ℕ) → (met_var v r s R q t B k).to.next ≡ grown_by k (met_var v r s R q t B k).emits
 unfolding met_var grown_by grown
-var_next v r none R q t B k = refl
-var_next v r (some j) R q t B k = refl
+var_next v r None R q t B k = refl
+var_next v r (Some j) R q t B k = refl
 
 pub met_next : (n : PNode) (x : Item) (R : List Root) (q t : List Item) (B : List Held) (k : ℕ) → (met n x R q t B k).to.next ≡ grown_by k (met n x R q t B k).emits
 unfolding met grown_by
@@ -47,9 +48,9 @@ unfolding rooted joined after enter entered grown_by grown
 rooted_next p (op o cs) q R B k = refl
 rooted_next p (var v) q R B k = go (reg_of B v)
   where
-    go : (s : Opt Reg) → (joined p v s q R B k).to.next ≡ grown_by k (joined p v s q R B k).emits
-    go (some j) = refl
-    go none = met_next (node_of p q.top) (item q.top (reg k)) R [] [] B (suc k)
+    go : (s : Option Reg) → (joined p v s q R B k).to.next ≡ grown_by k (joined p v s q R B k).emits
+    go (Some j) = refl
+    go None = met_next (node_of p q.top) (item q.top (reg k)) R [] [] B (suc k)
 
 -- the registers after a step are those that its instructions write
 pub step_next : (p : Pattern) (before : List Held → Item → Item → Bool) (R : List Root) (q t : List Item) (B : List Held) (k : ℕ)

@@ -1,50 +1,31 @@
-use Rattle.meaning.specs.Program.{reg}
-use Rattle.meaning.specs.Words.{word}
-use Rattle.meaning.specs.Tests.{none, some}
-use borrow.Author.Tests.{eq-eqb, ne_eqb}
-use native.Mathlib.Numerals.{add-one}
-use lib.Seq.{drop-cons, get_or-take}
-use lib.ListN.{get_or, length-take, drop_of_length-le}
-use mathlib.Core.List.{[]}
-use mathlib.Core.Bool.{cond}
-use lib.Dec.{eqb}
-use Rattle.compiler.specs.Arrays.{held_of, helds_of}
+use Rattle.std.proofs.Common.{ℕ, ◌≡◌, ◌∙◌, ap, refl, rules, tests, Bor, List, [], ◌∷◌, Bool, true, false, cond, nat_eq, Option, None, Some}
+use Rattle.std.specs.List.{find}
+use Rattle.std.specs.Option.{option_map, MatchOption, IsSomeAnd}
+use Rattle.std.proofs.lemmas.Iterator.{YieldsList-from_slice}
+use Rattle.std.proofs.lemmas.Iterator.Search.{find_from_yields_List}
+use Rattle.meaning.specs.declared.Reg.{Reg}
 use Rattle.meaning.specs.Compiler.{reg_of}
-use lib.ListN.{length, take, drop}
-use mathlib.Core.List.{List, map}
-use mathlib.Core.Path.{◌≡◌, refl, sym, ◌∙◌}
-use Prim.Native.Nat.{ℕ, ◌+◌, ◌<◌, ◌≤◌}
-use native.Mathlib.Omega.{arith}
-use borrow.Author.Rules.{rules}
+use Rattle.compiler.specs.declared.vars.Bound.{Bound}
+use Rattle.compiler.specs.Lists.{helds_of}
 use Rattle.compiler.proofs.vars.reg_of.Goals as goal
 
--- what is left of the variables, by its first
-step : (a : List (List ℕ)) (n v i : ℕ) → i < n → n ≤ length a
-    → reg_of (map held_of (drop i (take n a))) v ≡ cond (eqb (word (get_or a i []) 0) v) (some (reg (word (get_or a i []) 1))) (reg_of (map held_of (drop (i + 1) (take n a))) v)
+-- the first binding's register, as a search
+first_bound : (a : List Bound) (v : ℕ) → option_map (λ b. b.reg) (find (λ b. nat_eq b.var v) a) ≡ reg_of (helds_of a) v
 unfolding reg_of
-step a n v i h l = let k : i < length (take n a) = rw (length-take n a) (omega arith) in
-    rw (drop-cons (take n a) i [] k, get_or-take n a i [] h, add-one i)
+first_bound [] v = refl
+first_bound (b ∷ a) v = go (nat_eq b.var v) (first_bound a v)
+  where
+    go : (t : Bool) → option_map (λ x. x.reg) (find (λ x. nat_eq x.var v) a) ≡ reg_of (helds_of a) v → option_map (λ x. x.reg) (cond t (Some b) (find (λ x. nat_eq x.var v) a)) ≡ cond t (Some b.reg) (reg_of (helds_of a) v)
+    go true e = refl
+    go false e = e
 
-module _ (a : List (List ℕ)) (n v i : ℕ) (e : reg_of (map held_of (drop i (take n a))) v ≡ reg_of (helds_of a n) v) (m : 264 ≡ length a) (l : n ≤ 264) where
-  found : i < n → get_or (get_or a i []) 0 0 ≡ v → some (reg (get_or (get_or a i []) 1 0)) ≡ reg_of (helds_of a n) v
-  found h d = sym (step a n v i h (omega arith) ∙ rw (eq-eqb (word (get_or a i []) 0) v d)) ∙ e
-
-  other : i < n → (get_or (get_or a i []) 0 0 ≡ v → ⊥) → reg_of (map held_of (drop (i + 1) (take n a))) v ≡ reg_of (helds_of a n) v
-  other h d = sym (step a n v i h (omega arith) ∙ rw (ne_eqb (word (get_or a i []) 0) v d)) ∙ e
-
-  absent : n ≤ i → none ≡ reg_of (helds_of a n) v
-  unfolding reg_of
-  absent h = let k : length (take n a) ≤ i = rw (length-take n a) (omega arith) in rw (drop_of_length-le (take n a) k) at e
-
-pub loop-i-init : goal.loop-i-init
-unfolding helds_of
-loop-i-init c = (search rules, refl)
-
-pub returns-then-b-v : goal.returns-then-b-v
-returns-then-b-v c = search found
-
-pub loop-i-preserved : goal.loop-i-preserved
-loop-i-preserved c = (search rules, search other)
+mapped : (o : Option (Bor Bound)) (r : Option Reg) (P : Bor Bound → Reg → Type 0) → MatchOption o (r ≡ None) (λ x. IsSomeAnd r (P x)) → ((x : Bor Bound) (z : Reg) → P x z → z ≡ x.now.reg) → r ≡ option_map (λ b. b.reg) (option_map (λ x. x.now) o)
+mapped None r P e f = e
+mapped (Some x) None P m f = absurd m
+mapped (Some x) (Some z) P m f = ap Some (f x z m)
 
 pub returns : goal.returns
-returns c = search absent
+returns c =
+    mapped c.find.result c.map.result _ c.map.ensures.cases (λ x z q. search rules)
+    ∙ ap (option_map (λ b. b.reg)) (find_from_yields_List (λ b. nat_eq b.var c.args.v) _ _ c.find.result c.find.ensures.ran (YieldsList-from_slice c.args.vars.now cc) (λ x b q k. search (rules, tests)))
+    ∙ first_bound c.args.vars.now c.args.v

@@ -1,0 +1,2 @@
+-- A node and its children, for whoever walks a pattern.
+pub mod Children

@@ -1,0 +1,2 @@
+-- The order that is derived on keys is the key order.
+pub mod Order

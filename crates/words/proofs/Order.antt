@@ -1,0 +1,57 @@
+-- The derived order of keys, and the key order on nodes. Assumes nothing.
+use Rattle.std.proofs.Common.{ℕ, zero, suc, ◌+◌, ◌<◌, ◌≤◌, ◌≡◌, Bool, true, false, cond, List, [], ◌∷◌, length, Ordering, Less, Equal, Greater, eqb, ltb, sym, ap, ◌∙◌, refl, subst, arith, ltb-true, ltb-false, eqb-true, eq-eqb}
+use Rattle.std.specs.Ordering.{ordering_then, nat_cmp, is_lt, MatchOrdering}
+use Rattle.std.specs.Cmp.Lexicographic.{slice_cmp}
+use Rattle.meaning.specs.Tests.{apart, not_true_false}
+use Rattle.meaning.specs.Graph.{Node, node, smaller, less_kids, less}
+use Rattle.words.specs.declared.key.Key.{Key}
+use Rattle.words.specs.Keys.{node_of}
+use Rattle.meaning.proofs.Laws.Keys.{smaller_lt, smaller_eq, less_irrefl, less_trans}
+
+along : (o : Ordering) {P Q R P' Q' R' : Type 0} → (P → P') → (Q → Q') → (R → R') → MatchOrdering o P Q R → MatchOrdering o P' Q' R'
+along Less f g h p = f p
+along Equal f g h p = g p
+along Greater f g h p = h p
+
+-- numbers that differ decide
+numbers : (a b : ℕ) (o : Ordering) (P Q R : Type 0) → (a < b → P) → (a ≡ b → MatchOrdering o P Q R) → (b < a → R) → MatchOrdering (ordering_then (nat_cmp a b) o) P Q R
+numbers a b o P Q R f g h = go (ltb a b) refl (eqb a b) refl
+  where
+    go : (x : Bool) → ltb a b ≡ x → (y : Bool) → eqb a b ≡ y → MatchOrdering (ordering_then (cond x Less (cond y Equal Greater)) o) P Q R
+    go true e y d = f (ltb-true a b e)
+    go false e true d = g (eqb-true a b d)
+    go false e false d = h (let l = ltb-false a b e in let n : a ≡ b → ⊥ = λ q. apart (sym (eq-eqb a b q) ∙ d) in omega arith)
+
+kids : (x y : List ℕ) → length x ≡ length y → MatchOrdering (slice_cmp nat_cmp x y) (less_kids x y ≡ true) (x ≡ y) (less_kids y x ≡ true)
+unfolding less_kids
+kids [] [] e = refl
+kids [] (b ∷ y) e = absurd (omega arith)
+kids (a ∷ x) [] e = absurd (omega arith)
+kids (a ∷ x) (b ∷ y) e = numbers a b _ _ _ _
+    (λ l. smaller_lt a b _ l)
+    (λ q. along (slice_cmp nat_cmp x y) {P = less_kids x y ≡ true} {Q = x ≡ y} {R = less_kids y x ≡ true} (λ h. smaller_eq a b _ q ∙ h) (λ h. λ i. q i ∷ h i) (λ h. smaller_eq b a _ (sym q) ∙ h) (kids x y (omega arith)))
+    (λ l. smaller_lt b a _ l)
+
+nodes : (n m : Node) → MatchOrdering (ordering_then (nat_cmp n.op m.op) (ordering_then (nat_cmp (length n.kids) (length m.kids)) (slice_cmp nat_cmp n.kids m.kids))) (less n m ≡ true) (n ≡ m) (less m n ≡ true)
+unfolding less
+nodes n m = numbers n.op m.op _ _ _ _
+    (λ l. smaller_lt n.op m.op _ l)
+    (λ q. numbers (length n.kids) (length m.kids) _ _ _ _
+    (λ l. smaller_eq n.op m.op _ q ∙ smaller_lt _ _ _ l)
+    (λ r. along (slice_cmp nat_cmp n.kids m.kids) {P = less_kids n.kids m.kids ≡ true} {Q = n.kids ≡ m.kids} {R = less_kids m.kids n.kids ≡ true}
+    (λ h. smaller_eq n.op m.op _ q ∙ smaller_eq _ _ _ r ∙ h)
+    (λ h. λ i. node (q i) (h i))
+    (λ h. smaller_eq m.op n.op _ (sym q) ∙ smaller_eq _ _ _ (sym r) ∙ h)
+    (kids n.kids m.kids r))
+    (λ l. smaller_eq m.op n.op _ (sym q) ∙ smaller_lt _ _ _ l))
+    (λ l. smaller_lt m.op n.op _ l)
+
+pub ordered : (a b : Key) (o : Ordering) → o ≡ ordering_then (nat_cmp a.op b.op) (ordering_then (nat_cmp a.arity b.arity) (slice_cmp nat_cmp a.kids.now b.kids.now))
+    → MatchOrdering o (less (node_of a) (node_of b) ≡ true) (node_of a ≡ node_of b) (less (node_of b) (node_of a) ≡ true)
+ordered a b o e = rw (e, a.counted, b.counted) (nodes (node_of a) (node_of b))
+
+-- less is what the order calls so
+pub first : (n m : Node) (o : Ordering) → MatchOrdering o (less n m ≡ true) (n ≡ m) (less m n ≡ true) → is_lt o ≡ less n m
+first n m Less h = sym h
+first n m Equal h = sym (not_true_false (less n m) (λ e. less_irrefl n (rw (← h) at e)))
+first n m Greater h = sym (not_true_false (less n m) (λ e. less_irrefl n (less_trans n m n e h)))
