@@ -54,6 +54,8 @@ impl Line {
         if self.kind == Some(Kind::Title) {
             return out.write_all(&[b]);
         }
+        // A digit at a time, and of a number that is too long the words' last 32 bits: `parse` reads a whole text
+        // and refuses such a number.
         match b {
             b'0'..=b'9' => {
                 let n = self.number.unwrap_or(0) % 4294967296;

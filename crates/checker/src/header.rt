@@ -6,7 +6,8 @@ ghost use Rattle.meaning.specs.Refusal.{good_limits, good_shape};
 use meaning::Layout;
 use words::header::Header;
 
-// Whether the counts are within their limits.
+// Whether the counts are within their limits. A pattern's header is tested in this shape, over other words and
+// limits: what the two share is `Header`.
 #[tactic(auto, using(meaning::proofs::Laws::Ands::ands), unfolding(meaning::specs::Refusal::good_limits))]
 pub fn good_limits(h: &Header<9>) -> bool
     ensures { result ≡ good_limits h.now.words.now }

@@ -44,7 +44,8 @@ impl Compiler {
         key(x) < key(y)
     }
 
-    // The place of the waiting item that goes before the others.
+    // The place of the waiting item that goes before the others. It is a `for` over places, as `best` of the
+    // definitions goes over them.
     #[tactic(auto, unfolding(meaning::specs::Compiler::best))]
     pub fn next(&self, weights: &Weights) -> usize
         requires waiting { 0 < length self.now.items.items }

@@ -25,7 +25,8 @@ impl Counts {
     }
 }
 
-// Whether the counts are within their limits: at least one node.
+// Whether the counts are within their limits: at least one node. A table's header is tested in this shape,
+// over other words and limits: what the two share is `Header`.
 #[tactic(auto, unfolding(meaning::specs::PatternRefusal::good_pattern_limits, meaning::specs::Tests::and))]
 pub fn good_limits(header: &Header<4>) -> bool
     ensures { result ≡ good_pattern_limits header.now.words.now }

@@ -27,7 +27,8 @@ impl Pattern<'_> {
         total
     }
 
-    // The occurrences of the pattern, shared children counted each time, or 257 if they are more.
+    // The occurrences of the pattern, shared children counted each time, or 257 if they are more: the number
+    // is what the clause promises, so no `Option` stands for it.
     pub fn occurrences(&self) -> u32
         ensures { result ≡ capped (occurrences (pattern_of self.now.parts.words.now)) }
     {

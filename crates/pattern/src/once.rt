@@ -12,8 +12,7 @@ pub struct Nodes<'a> {
     pub ghost joined: { Joined (start_at parts.words.now) (degree_at parts.words.now) parts.counts.n parts.counts.k },
 }
 
-// What a node says. The kind is a number, since nodes whose kinds are not yet known to be good are
-// compared as well.
+// What a node says. The kind is a number, since `good_once` asks nothing of the kinds.
 #[derive(Clone, Copy, PartialEq, Eq)]
 struct Node<'a> {
     kind: usize,

@@ -61,8 +61,8 @@ impl Run<'_, '_> {
         .unwrap_or_else(|k| k)
     }
 
-    // The first place, stepping back from `from` over nodes with the shape. It is a `for`, since of a range
-    // taken from its end the library's lemmas say nothing yet.
+    // The first place, stepping back from `from` over nodes with the shape. It is a `for`, since of a search
+    // from a range's end (`rposition`) the library's lemmas say nothing yet.
     #[tactic(auto, using(crate::proofs::Blocks::nearer, crate::proofs::Blocks::stopped))]
     fn stepped_back(&self, shape: Shape, from: usize) -> usize
         requires { MetBy self.now shape from }

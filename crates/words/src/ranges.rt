@@ -4,7 +4,8 @@ ghost use Rattle.meaning.specs.Words.{first_at, count_at, kid_at, arity_at};
 
 use crate::areas::Areas;
 
-// Numbered ranges of an area, each by its start and its count.
+// Numbered ranges of an area, each by its start and its count. That a range starts where the one before it
+// ends, and that the last ends with the area, callers compare by themselves: a method would be no plainer.
 pub trait Ranges {
     ghost start: { Self → ℕ → ℕ };
 
