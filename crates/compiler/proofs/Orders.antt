@@ -1,7 +1,7 @@
 -- The order by keys, one after another, as the comparison of tuples has it. Assumes nothing.
-use Rattle.std.proofs.Common.{ℕ, List, ◌≡◌, sym, refl, Bool, true, false, cond, not, eqb, nat_lt, nat_eq, Option, Some, Ordering, Less, Equal, Greater, ltb-true, ltb-false, eqb-true, arith}
-use Rattle.std.proofs.lemmas.Bool.{eqb-false}
-use Rattle.std.specs.Ordering.{nat_cmp, bool_cmp, is_lt, is_some_and, partial_ordering_then}
+use Rattle.std.proofs.Common.{ℕ, ◌<◌, List, ◌≡◌, sym, refl, Bool, true, false, cond, not, eqb, nat_lt, nat_eq, Option, Some, Ordering, Less, Equal, Greater, arith}
+use Rattle.std.specs.Cmp.{ranks}
+use Rattle.std.specs.Ordering.{nat_cmp, bool_cmp, is_lt, is_some_and, partial_ordering_then, MatchOrdering}
 use Rattle.meaning.specs.Graph.{smaller}
 use Rattle.compiler.specs.declared.items.Item.{Item}
 use Rattle.compiler.specs.declared.load.Weight.{Weight}
@@ -28,12 +28,12 @@ regrouped Greater q r = refl
 
 -- a number decides
 by_number : (a b : ℕ) (r : Bool) → decided (nat_cmp a b) r ≡ smaller a b r
-by_number a b r = go (nat_lt a b) refl (nat_eq a b) refl
+by_number a b r = go (nat_cmp a b) (ranks a b)
   where
-    go : (t : Bool) → nat_lt a b ≡ t → (u : Bool) → nat_eq a b ≡ u → decided (cond t Less (cond u Equal Greater)) r ≡ smaller a b r
-    go true e u f = sym (smaller_lt a b r (ltb-true a b e))
-    go false e true f = sym (smaller_eq a b r (eqb-true a b f))
-    go false e false f = sym (smaller_gt a b r (let g = ltb-false a b e in omega (arith, eqb-false a b f)))
+    go : (p : Ordering) → MatchOrdering p (a < b) (a ≡ b) (b < a) → decided p r ≡ smaller a b r
+    go Less l = sym (smaller_lt a b r l)
+    go Equal e = sym (smaller_eq a b r e)
+    go Greater l = sym (smaller_gt a b r l)
 
 by_last : (a b : ℕ) → is_lt (nat_cmp a b) ≡ nat_lt a b
 by_last a b = go (nat_lt a b) (nat_eq a b)

@@ -1,8 +1,7 @@
 -- What the compiler has so far, and what each of its functions makes of it. Assumes nothing.
-use Rattle.std.specs.Prelude.{ℕ, suc, ◌+◌, ◌^◌, ◌≤◌, List, [], ◌∷◌, ◌++◌, cond, not, eqb, length, take, drop}
+use Rattle.std.specs.Prelude.{ℕ, suc, ◌+◌, ◌^◌, ◌≤◌, List, [], ◌∷◌, ◌++◌, cond, not, eqb, length, take, drop, Option, None, Some}
 use Rattle.std.specs.Int.Bits.{bit_or}
 use Rattle.meaning.specs.declared.Reg.{Reg}
-use Rattle.std.specs.Prelude.{Option, None, Some}
 use Rattle.meaning.specs.Tests.{and}
 use Rattle.meaning.specs.PatternWords.{kind_at, number_at, degree_at, children_of}
 use Rattle.meaning.specs.Program.{bind, compare, lookat, reg, Held, held}

@@ -1,7 +1,6 @@
 -- The compiler: one step at a time, its next item by document 01's order. Assumes nothing.
-use Rattle.std.specs.Prelude.{ℕ, zero, suc, ◌+◌, List, [], ◌∷◌, ◌++◌, Bool, true, false, cond, not, length, get_or, take, drop, eqb, ltb}
+use Rattle.std.specs.Prelude.{ℕ, zero, suc, ◌+◌, List, [], ◌∷◌, ◌++◌, Bool, true, false, cond, not, length, get_or, take, drop, eqb, ltb, Option, None, Some}
 use Rattle.meaning.specs.declared.Reg.{Reg}
-use Rattle.std.specs.Prelude.{Option, None, Some}
 use Rattle.meaning.specs.Tests.{and}
 use Rattle.meaning.specs.Graph.{smaller}
 use Rattle.meaning.specs.Pattern.{PNode, var, op, Pattern, node_of, root, free, size, occ}

@@ -1,8 +1,6 @@
 -- A graph of classes, and the class of a key. Assumes nothing.
-use Rattle.std.specs.Prelude.{ℕ, suc, ◌<◌, ◌≡◌, Bool, true, false, cond, eqb, ltb, length}
-use mathlib.Core.List.{List, [], ◌∷◌, map, flat_map}
-use mathlib.Core.List.{Memᴰ as Mem}
-use Rattle.std.specs.Prelude.{Option, None, Some}
+use Rattle.std.specs.Prelude.{ℕ, suc, ◌<◌, ◌≡◌, Bool, true, false, cond, eqb, ltb, length, Option, None, Some}
+use mathlib.Core.List.{List, [], ◌∷◌, map, flat_map, Memᴰ as Mem}
 use Rattle.meaning.specs.Tests.{and, same_list}
 use Rattle.meaning.specs.Lists.{All, NoDup, Ascends}
 

@@ -1,7 +1,6 @@
 -- The instance of a pattern's node under an assignment, as 'Meaning' says. Assumes nothing.
-use Rattle.std.specs.Prelude.{ℕ, ◌≡◌, List, [], ◌∷◌, map}
+use Rattle.std.specs.Prelude.{ℕ, ◌≡◌, List, [], ◌∷◌, map, Option, None, Some}
 use mathlib.Core.List.{Memᴰ as Mem}
-use Rattle.std.specs.Prelude.{Option, None, Some}
 use Rattle.meaning.specs.Lists.{All}
 use Rattle.meaning.specs.Graph.{Graph, lookup, ids}
 use Rattle.meaning.specs.Pattern.{PNode, var, op, Pattern, Bound, root, value}

@@ -1,15 +1,8 @@
 -- Lists: a fact of all, no two alike, one taken out, a walk over all. Assumes nothing.
 use Rattle.std.specs.Prelude.{◌≡◌, refl, ◌⊎◌}
 use Rattle.std.proofs.Common.{sym, ap, subst, inl, inr, ⊎_elim}
-use mathlib.Core.List.{List, [], ◌∷◌, ◌++◌, map, flat_map}
-use mathlib.Core.List.Memᴰ.{append_cases as mem-cases}
-use mathlib.Core.List.Memᴰ.{append_left as mem-left}
-use mathlib.Core.List.Memᴰ.{append_right as mem-right}
-use mathlib.Core.List.Memᴰ.{cast as mem-cast}
-use mathlib.Core.List.Memᴰ.{head}
-use mathlib.Core.List.Memᴰ.{not-nil}
-use mathlib.Core.List.Memᴰ.{tail}
-use mathlib.Core.List.{Memᴰ as Mem}
+use mathlib.Core.List.{List, [], ◌∷◌, ◌++◌, map, flat_map, Memᴰ as Mem}
+use mathlib.Core.List.Memᴰ.{append_cases as mem-cases, append_left as mem-left, append_right as mem-right, cast as mem-cast, head, not-nil, tail}
 
 -- each x of the list has P
 pub data All {A : Type 0} (P : A → Type 0) : List A → Type 0 where

@@ -1,6 +1,5 @@
 -- Where the nodes of a shape start in a run. Assumes nothing.
-use Rattle.std.proofs.Common.{ℕ, ◌+◌, ◌-◌, ◌<◌, ◌≤◌, ◌≡◌, Bool, true, false, ltb, List, Option, Some, None, Result, Ok, Err, Ordering, Less, Equal, sym, ◌∙◌, ⊎_elim, arith, eq-or-lt_of_le, ltb-true, ltb-false}
-use Rattle.std.proofs.Common.{Greater, refl}
+use Rattle.std.proofs.Common.{ℕ, ◌+◌, ◌-◌, ◌<◌, ◌≤◌, ◌≡◌, Bool, true, false, ltb, List, Option, Some, None, Result, Ok, Err, Ordering, Less, Equal, sym, ◌∙◌, ⊎_elim, arith, eq-or-lt_of_le, ltb-true, ltb-false, Greater, refl}
 use Rattle.std.specs.Option.{MatchOption, unwrap_or}
 use Rattle.std.specs.Result.{MatchResult}
 use Rattle.std.specs.Ordering.{MatchOrdering}

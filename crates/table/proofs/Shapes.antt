@@ -1,6 +1,5 @@
 -- A node's shape, and how it compares with another. Assumes nothing.
-use Rattle.std.proofs.Common.{ℕ, ◌<◌, ◌≡◌, true, false, List, length, Ordering, Less, Equal, Greater, sym, ◌∙◌, inl, inr, arith}
-use Rattle.std.proofs.Common.{le-ltb}
+use Rattle.std.proofs.Common.{ℕ, ◌<◌, ◌≡◌, true, false, List, length, Ordering, Less, Equal, Greater, sym, ◌∙◌, inl, inr, arith, le-ltb}
 use Rattle.std.specs.Ordering.{ordering_then, nat_cmp, MatchOrdering}
 use Rattle.std.specs.Cmp.{ranks}
 use Rattle.meaning.specs.declared.Layout.{Layout}

@@ -1,9 +1,10 @@
 -- The derived order of keys, and the key order on nodes. Assumes nothing.
-use Rattle.std.proofs.Common.{ℕ, zero, suc, ◌+◌, ◌<◌, ◌≤◌, ◌≡◌, Bool, true, false, cond, List, [], ◌∷◌, length, Ordering, Less, Equal, Greater, eqb, ltb, sym, ap, ◌∙◌, refl, subst, arith, ltb-true, ltb-false, eqb-true, eq-eqb}
+use Rattle.std.proofs.Common.{ℕ, ◌<◌, ◌≡◌, true, List, [], ◌∷◌, length, Ordering, Less, Equal, Greater, sym, ◌∙◌, refl, arith}
 use Rattle.std.specs.Ordering.{ordering_then, nat_cmp, is_lt, MatchOrdering}
+use Rattle.std.specs.Cmp.{ranks}
 use Rattle.std.specs.Cmp.Lexicographic.{slice_cmp}
-use Rattle.meaning.specs.Tests.{apart, not_true_false}
-use Rattle.meaning.specs.Graph.{Node, node, smaller, less_kids, less}
+use Rattle.meaning.specs.Tests.{not_true_false}
+use Rattle.meaning.specs.Graph.{Node, node, less_kids, less}
 use Rattle.words.specs.declared.key.Key.{Key}
 use Rattle.words.specs.Keys.{node_of}
 use Rattle.meaning.proofs.Laws.Keys.{smaller_lt, smaller_eq, less_irrefl, less_trans}
@@ -15,12 +16,12 @@ along Greater f g h p = h p
 
 -- numbers that differ decide
 numbers : (a b : ℕ) (o : Ordering) (P Q R : Type 0) → (a < b → P) → (a ≡ b → MatchOrdering o P Q R) → (b < a → R) → MatchOrdering (ordering_then (nat_cmp a b) o) P Q R
-numbers a b o P Q R f g h = go (ltb a b) refl (eqb a b) refl
+numbers a b o P Q R f g h = go (nat_cmp a b) (ranks a b)
   where
-    go : (x : Bool) → ltb a b ≡ x → (y : Bool) → eqb a b ≡ y → MatchOrdering (ordering_then (cond x Less (cond y Equal Greater)) o) P Q R
-    go true e y d = f (ltb-true a b e)
-    go false e true d = g (eqb-true a b d)
-    go false e false d = h (let l = ltb-false a b e in let n : a ≡ b → ⊥ = λ q. apart (sym (eq-eqb a b q) ∙ d) in omega arith)
+    go : (p : Ordering) → MatchOrdering p (a < b) (a ≡ b) (b < a) → MatchOrdering (ordering_then p o) P Q R
+    go Less l = f l
+    go Equal e = g e
+    go Greater l = h l
 
 kids : (x y : List ℕ) → length x ≡ length y → MatchOrdering (slice_cmp nat_cmp x y) (less_kids x y ≡ true) (x ≡ y) (less_kids y x ≡ true)
 unfolding less_kids

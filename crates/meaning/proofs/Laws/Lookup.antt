@@ -1,13 +1,7 @@
 -- A class's nodes, and what lookup finds: they agree in a well-formed graph. Assumes nothing.
 use Rattle.std.proofs.Common.{ℕ, ◌≡◌, refl, Bool, true, false, cond, eqb, sym, ap, arith, eqb-true, eq-eqb, ne_eqb, List, [], ◌∷◌, ◌++◌, None, Some}
-use mathlib.Core.List.{flat_map}
-use mathlib.Core.List.Memᴰ.{append_left as mem-left}
-use mathlib.Core.List.Memᴰ.{append_right as mem-right}
-use mathlib.Core.List.Memᴰ.{cast as mem-cast}
-use mathlib.Core.List.Memᴰ.{head}
-use mathlib.Core.List.Memᴰ.{not-nil}
-use mathlib.Core.List.Memᴰ.{tail}
-use mathlib.Core.List.{Memᴰ as Mem}
+use mathlib.Core.List.{flat_map, Memᴰ as Mem}
+use mathlib.Core.List.Memᴰ.{append_left as mem-left, append_right as mem-right, cast as mem-cast, head, not-nil, tail}
 use Rattle.meaning.specs.Lists.{All, NoDup, empty, more, all_of, nodup_left, nodup_right, nodup_apart}
 use Rattle.meaning.specs.Graph.{Graph, Node, node, is_key, has_key, lookup, nodes_of, ids, all_nodes, next, place_in, WellFormed}
 use Rattle.meaning.specs.Laws.Ascending.{lt_lt, ascends_once}

@@ -1,10 +1,7 @@
 -- Sizes and variables of a good pattern's nodes, from their children's; no size is over the limit. Assumes nothing.
 use Rattle.std.proofs.Common.{ℕ, zero, suc, ◌+◌, ◌*◌, ◌-◌, ◌<◌, ◌≤◌, ◌≡◌, List, [], ◌∷◌, Bool, true, false, ltb, ap, ◌∙◌, ⊎_elim, ltb-true, ltb-false, arith}
 use Rattle.std.proofs.Math.Path.{refl}
-use mathlib.Core.List.Memᴰ.{cases_cons}
-use mathlib.Core.List.Memᴰ.{head}
-use mathlib.Core.List.Memᴰ.{not-nil}
-use mathlib.Core.List.Memᴰ.{tail}
+use mathlib.Core.List.Memᴰ.{cases_cons, head, not-nil, tail}
 use mathlib.Core.List.{Memᴰ as Mem}
 use Rattle.std.proofs.Math.ListN.{length}
 use Rattle.meaning.specs.Words.{word}

@@ -1,11 +1,8 @@
 -- What follows from a good table: the facts that the floors above may use. Assumes nothing.
 use Rattle.std.proofs.Common.{ℕ, zero, suc, ◌+◌, ◌*◌, ◌-◌, ◌<◌, ◌≤◌, ◌≡◌, refl, ◌↔◌, Bool, true, false, cond, ltb, get_or, take, drop, sym, ◌∙◌, length-take, length-drop, get_or-take, get_or-drop, mul-le-mul_right, eq-eqb, ne_eqb, ltb-true, ltb-false, List, [], ◌∷◌, ◌++◌, map, arith, None, Some}
 use Rattle.std.proofs.Math.Path.{ap}
-use mathlib.Core.List.{flat_map}
-use mathlib.Core.List.Memᴰ.{cast as mem-cast}
-use mathlib.Core.List.Memᴰ.{head}
-use mathlib.Core.List.Memᴰ.{tail}
-use mathlib.Core.List.{Memᴰ as Mem}
+use mathlib.Core.List.{flat_map, Memᴰ as Mem}
+use mathlib.Core.List.Memᴰ.{cast as mem-cast, head, tail}
 use Rattle.std.proofs.Math.ListN.{length}
 use Rattle.std.proofs.Math.Nat.{zero-add}
 use Rattle.meaning.specs.declared.Layout.{Layout}

@@ -1,8 +1,7 @@
 -- Which item is taken next, and what it gives: document 01's words, and the computed choice is that. Assumes nothing.
 use Rattle.std.proofs.Common.{ℕ, zero, suc, ◌<◌, ◌≡◌, List, [], ◌∷◌, ◌⊎◌, Bool, false, cond, not, length, get_or, eqb, ltb, ◌∙◌, inl, inr, eq-or-lt_of_le, le_of_suc-le-suc, eqb-true, eq-eqb, ltb-true, lt-ltb, arith}
 use Rattle.std.proofs.Math.Path.{refl, sym, ap}
-use mathlib.Core.List.Memᴰ.{head}
-use mathlib.Core.List.Memᴰ.{tail}
+use mathlib.Core.List.Memᴰ.{head, tail}
 use mathlib.Core.List.{Memᴰ as Mem}
 use Rattle.std.proofs.Math.Logic.{⊎_elim}
 use Rattle.std.proofs.Math.Bool.{true}

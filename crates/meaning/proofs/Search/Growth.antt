@@ -1,8 +1,6 @@
 -- What a map that keeps every node does to instances and rows. Assumes nothing.
 use Rattle.std.proofs.Common.{ℕ, zero, suc, ◌<◌, ◌≡◌, refl, List, [], ◌∷◌, map, Bool, true, false, length, ltb, sym, ap, ◌∙◌, ltb-true, ltb-false, arith, Option, Some}
-use mathlib.Core.List.Memᴰ.{cast as mem-cast}
-use mathlib.Core.List.Memᴰ.{head}
-use mathlib.Core.List.Memᴰ.{tail}
+use mathlib.Core.List.Memᴰ.{cast as mem-cast, head, tail}
 use mathlib.Core.List.{Memᴰ as Mem}
 use Rattle.meaning.specs.Lists.{map_map}
 use Rattle.meaning.specs.Graph.{Graph, node, nodes_of, ids, lookup, WellFormed}

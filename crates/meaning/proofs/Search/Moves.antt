@@ -1,8 +1,6 @@
 -- What each kind of step does to the assignments that solve a state. Assumes nothing.
 use Rattle.std.proofs.Common.{ℕ, ◌<◌, ◌≡◌, refl, List, [], ◌∷◌, ◌++◌, map, true, length, sym, ap, ◌∙◌, ap₂, eqb-true, eq-eqb, Some}
-use mathlib.Core.List.Memᴰ.{cast as mem-cast}
-use mathlib.Core.List.Memᴰ.{eq_of_singleton as only}
-use mathlib.Core.List.Memᴰ.{head}
+use mathlib.Core.List.Memᴰ.{cast as mem-cast, eq_of_singleton as only, head}
 use mathlib.Core.List.{Memᴰ as Mem}
 use Rattle.std.proofs.lemmas.List.{length-map}
 use Rattle.std.proofs.Math.Seq.{get_or-append_seam}

@@ -1,11 +1,7 @@
 -- The variables of a multipattern's rows are its binders and its patterns' variables. Assumes nothing.
 use Rattle.std.proofs.Common.{ℕ, zero, suc, ◌+◌, ◌-◌, ◌<◌, ◌≡◌, List, [], ◌∷◌, map, ◌⊎◌, ◌↔◌, sym, ap, ◌∙◌, arith}
 use Rattle.std.proofs.Math.Path.{refl, subst}
-use mathlib.Core.List.Memᴰ.{cases_cons}
-use mathlib.Core.List.Memᴰ.{eq_of_singleton as only}
-use mathlib.Core.List.Memᴰ.{head}
-use mathlib.Core.List.Memᴰ.{not-nil}
-use mathlib.Core.List.Memᴰ.{tail}
+use mathlib.Core.List.Memᴰ.{cases_cons, eq_of_singleton as only, head, not-nil, tail}
 use mathlib.Core.List.{Memᴰ as Mem}
 use Rattle.std.proofs.Math.Logic.{inl, inr, ⊎_elim}
 use Rattle.std.proofs.Math.ListN.{length}

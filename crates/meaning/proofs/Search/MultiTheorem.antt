@@ -1,8 +1,7 @@
 -- The rows of a multipattern are the assignments that meet every pattern, each once. Assumes nothing.
 use Rattle.std.proofs.Common.{ℕ, zero, suc, ◌+◌, ◌-◌, ◌<◌, ◌≡◌, Bool, true, false, ltb, sym, ◌∙◌, length-append, ltb-true, ltb-false, add-zero, zero-add, List, [], ◌∷◌, ◌++◌, map, Some}
 use Rattle.std.proofs.Math.Path.{refl, ap}
-use mathlib.Core.List.Memᴰ.{cast as mem-cast}
-use mathlib.Core.List.Memᴰ.{not-nil}
+use mathlib.Core.List.Memᴰ.{cast as mem-cast, not-nil}
 use mathlib.Core.List.{Memᴰ as Mem}
 use Rattle.std.proofs.Math.ListN.{length, length-map, get_or-append, get_or-map}
 use Rattle.std.proofs.Math.Seq.{get_or-append-add}

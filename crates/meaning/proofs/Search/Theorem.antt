@@ -1,7 +1,6 @@
 -- The rows of a pattern in a class are the assignments under which its root's instance is that class, each once. Assumes nothing.
 use Rattle.std.proofs.Common.{ℕ, ◌≡◌, refl, List, [], ◌∷◌, ◌↔◌, Bool, length, sym, arith, Some}
-use mathlib.Core.List.Memᴰ.{cast as mem-cast}
-use mathlib.Core.List.Memᴰ.{head}
+use mathlib.Core.List.Memᴰ.{cast as mem-cast, head}
 use mathlib.Core.List.{Memᴰ as Mem}
 use Rattle.meaning.specs.Lists.{nil, cons, NoDup, empty, all_at}
 use Rattle.meaning.specs.Graph.{Graph, ids, WellFormed}

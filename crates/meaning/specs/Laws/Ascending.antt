@@ -1,10 +1,7 @@
 -- Laws of ascending lists. Assumes nothing.
 use Rattle.std.specs.Prelude.{ℕ, zero, suc, ◌+◌, ◌-◌, ◌<◌, ◌≡◌, refl, List, [], ◌∷◌, map, ◌⊎◌, Bool, true, false, cond, length, get_or}
 use Rattle.std.proofs.Common.{sym, ap, ◌∙◌, inl, inr, ⊎_elim, arith}
-use mathlib.Core.List.Memᴰ.{cases_cons}
-use mathlib.Core.List.Memᴰ.{head}
-use mathlib.Core.List.Memᴰ.{not-nil}
-use mathlib.Core.List.Memᴰ.{tail}
+use mathlib.Core.List.Memᴰ.{cases_cons, head, not-nil, tail}
 use mathlib.Core.List.{Memᴰ as Mem}
 use Rattle.meaning.specs.Lists.{NoDup, empty, more, Ascends, none, one, then}
 use Rattle.meaning.specs.Ranges.{from, keep}

@@ -1,10 +1,7 @@
 -- Laws of runs of numbers, and of what is kept of a list. Assumes nothing.
 use Rattle.std.specs.Prelude.{ℕ, zero, suc, ◌+◌, ◌<◌, ◌≤◌, ◌≡◌, refl, List, [], ◌∷◌, ◌++◌, map, ◌⊎◌, Bool, true, false, cond, length, get_or}
 use Rattle.std.proofs.Common.{sym, ap, ◌∙◌, inl, inr, ⊎_elim, add-zero, zero-add, eq-or-lt_of_le, arith}
-use mathlib.Core.List.Memᴰ.{cases_cons}
-use mathlib.Core.List.Memᴰ.{head}
-use mathlib.Core.List.Memᴰ.{not-nil}
-use mathlib.Core.List.Memᴰ.{tail}
+use mathlib.Core.List.Memᴰ.{cases_cons, head, not-nil, tail}
 use mathlib.Core.List.{Memᴰ as Mem}
 use Rattle.meaning.specs.Tests.{apart}
 use Rattle.meaning.specs.Lists.{NoDup, empty, more, map_append}

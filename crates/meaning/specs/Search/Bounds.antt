@@ -2,11 +2,10 @@
 use Prim.Native.Nat.{ℕ, zero, suc, ◌+◌, ◌-◌, ◌<◌, ◌≤◌}
 use Rattle.std.proofs.Math.Path.{◌≡◌, refl}
 use mathlib.Core.List.{List, [], ◌∷◌, ◌++◌}
-use Rattle.std.specs.Prelude.{Bool, true, false, cond, not}
+use Rattle.std.specs.Prelude.{Bool, true, false, cond, not, Option, None, Some}
 use Rattle.std.proofs.Math.ListN.{length, length-append}
 use native.Mathlib.Omega.{arith}
 use Rattle.meaning.specs.declared.Reg.{Reg}
-use Rattle.std.specs.Prelude.{Option, None, Some}
 use Rattle.meaning.specs.Tests.{and}
 use Rattle.meaning.specs.Lists.{All, cons, Took, took_all}
 use Rattle.meaning.specs.Pattern.{PNode, var, op, Pattern, node_of, Ordered, occ, sum}

@@ -1,10 +1,9 @@
 -- The compiler's program is one of those that some order gives, whichever item it takes next. Assumes nothing.
-use Rattle.std.specs.Prelude.{ℕ, zero, suc, ◌+◌, ◌-◌, ◌<◌, ◌≤◌, ◌≡◌, Bool, length}
+use Rattle.std.specs.Prelude.{ℕ, zero, suc, ◌+◌, ◌-◌, ◌<◌, ◌≤◌, ◌≡◌, Bool, length, None}
 use Rattle.std.proofs.Math.Path.{refl}
 use Rattle.std.proofs.Common.{sym, ap, le_trans}
 use mathlib.Core.List.{List, [], ◌∷◌, ◌++◌}
 use native.Mathlib.Omega.{arith}
-use Rattle.std.specs.Prelude.{None}
 use Rattle.meaning.specs.Lists.{All, nil, cons}
 use Rattle.meaning.specs.Pattern.{var, Pattern, Ordered, root, occ, node_of}
 use Rattle.meaning.specs.Program.{Held, reg}

@@ -1,17 +1,12 @@
 -- Free variables not yet bound, counted as members of a set. Assumes nothing.
 use Prim.Native.Nat.{ℕ, suc, ◌+◌, ◌<◌}
-use Rattle.std.specs.Prelude.{◌≡◌, refl, List, [], ◌∷◌, map, Bool, true, false, cond, length}
+use Rattle.std.specs.Prelude.{◌≡◌, refl, List, [], ◌∷◌, map, Bool, true, false, cond, length, Option, None, Some}
 use Rattle.std.proofs.Common.{sym, subst, ◌∙◌, ⊎_elim, arith, zero-add}
 use Rattle.std.proofs.Math.Path.{ap}
-use mathlib.Core.List.Memᴰ.{cases_cons}
-use mathlib.Core.List.Memᴰ.{cast as mem-cast}
-use mathlib.Core.List.Memᴰ.{head}
-use mathlib.Core.List.Memᴰ.{not-nil}
-use mathlib.Core.List.Memᴰ.{tail}
+use mathlib.Core.List.Memᴰ.{cases_cons, cast as mem-cast, head, not-nil, tail}
 use mathlib.Core.List.{Memᴰ as Mem}
 use Rattle.std.proofs.lemmas.List.{length-map}
 use Rattle.meaning.specs.declared.Reg.{Reg}
-use Rattle.std.specs.Prelude.{Option, None, Some}
 use Rattle.meaning.specs.Tests.{apart}
 use Rattle.meaning.specs.Lists.{NoDup, empty, more, took_rest, took_mem, mem_map, from_map}
 use Rattle.meaning.specs.Ranges.{from, keep}

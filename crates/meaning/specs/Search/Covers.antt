@@ -3,17 +3,8 @@ use Prim.Native.Nat.{ℕ, zero, suc, ◌+◌, ◌<◌, ◌≤◌}
 use Rattle.std.specs.Prelude.{◌≡◌, ◌⊎◌, ◌↔◌, Bool}
 use Rattle.std.proofs.Math.Path.{refl}
 use Rattle.std.proofs.Common.{ap, subst}
-use mathlib.Core.List.{List, [], ◌∷◌, ◌++◌}
-use mathlib.Core.List.Memᴰ.{append_cases as mem-cases}
-use mathlib.Core.List.Memᴰ.{append_left as mem-left}
-use mathlib.Core.List.Memᴰ.{append_right as mem-right}
-use mathlib.Core.List.Memᴰ.{cases_cons}
-use mathlib.Core.List.Memᴰ.{cast as mem-cast}
-use mathlib.Core.List.Memᴰ.{eq_of_singleton as only}
-use mathlib.Core.List.Memᴰ.{head}
-use mathlib.Core.List.Memᴰ.{not-nil}
-use mathlib.Core.List.Memᴰ.{tail}
-use mathlib.Core.List.{Memᴰ as Mem}
+use mathlib.Core.List.{List, [], ◌∷◌, ◌++◌, Memᴰ as Mem}
+use mathlib.Core.List.Memᴰ.{append_cases as mem-cases, append_left as mem-left, append_right as mem-right, cases_cons, cast as mem-cast, eq_of_singleton as only, head, not-nil, tail}
 use Rattle.std.proofs.Math.Logic.{⊎_elim}
 use Rattle.std.proofs.Math.Bool.{true, false}
 use Rattle.std.proofs.Math.ListN.{length}

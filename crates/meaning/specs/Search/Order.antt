@@ -1,9 +1,7 @@
 -- Every program that some order of the work items may give. Assumes nothing.
 use Rattle.std.specs.Prelude.{ℕ, suc, ◌+◌, ◌<◌, ◌≡◌, List, [], ◌∷◌, ◌++◌, length}
 use Rattle.std.proofs.Common.{sym}
-use mathlib.Core.List.Memᴰ.{append_left as mem-left}
-use mathlib.Core.List.Memᴰ.{cast as mem-cast}
-use mathlib.Core.List.Memᴰ.{eq_of_singleton as only}
+use mathlib.Core.List.Memᴰ.{append_left as mem-left, cast as mem-cast, eq_of_singleton as only}
 use mathlib.Core.List.{Memᴰ as Mem}
 use Rattle.meaning.specs.declared.Reg.{Reg}
 use Rattle.meaning.specs.Lists.{NoDup, Took, map_append, nodup_append, nodup_one}

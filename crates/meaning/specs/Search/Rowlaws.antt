@@ -1,13 +1,10 @@
 -- Laws of rows, registers and numbered children. Assumes nothing.
-use Rattle.std.specs.Prelude.{ℕ, suc, ◌+◌, ◌<◌, ◌≡◌, refl, List, [], ◌∷◌, ◌++◌, map, length}
+use Rattle.std.specs.Prelude.{ℕ, suc, ◌+◌, ◌<◌, ◌≡◌, refl, List, [], ◌∷◌, ◌++◌, map, length, Option, None, Some}
 use Rattle.std.proofs.Common.{sym, ap, ◌∙◌, length-append, eq-eqb, ne_eqb, arith}
-use mathlib.Core.List.Memᴰ.{cast as mem-cast}
-use mathlib.Core.List.Memᴰ.{head}
-use mathlib.Core.List.Memᴰ.{tail}
+use mathlib.Core.List.Memᴰ.{cast as mem-cast, head, tail}
 use mathlib.Core.List.{Memᴰ as Mem}
 use Rattle.std.proofs.Math.Seq.{get_or-append_seam, append_snoc}
 use Rattle.std.proofs.Math.Nat.{suc_inj}
-use Rattle.std.specs.Prelude.{Option, None, Some}
 use Rattle.meaning.specs.Lists.{All, nil, cons, NoDup, more, mem_map, all_map, map_same}
 use Rattle.meaning.specs.Instance.{all_some}
 use Rattle.meaning.specs.Program.{Held, vars, row, asg, at, reg}

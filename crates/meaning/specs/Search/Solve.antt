@@ -1,7 +1,6 @@
 -- When an assignment solves a compiler's state at a register file, and what the proof may use. Assumes nothing.
-use Rattle.std.specs.Prelude.{ℕ, ◌<◌, ◌≡◌, List, map, length}
+use Rattle.std.specs.Prelude.{ℕ, ◌<◌, ◌≡◌, List, map, length, Some}
 use mathlib.Core.List.{Memᴰ as Mem}
-use Rattle.std.specs.Prelude.{Some}
 use Rattle.meaning.specs.Lists.{NoDup, All}
 use Rattle.meaning.specs.Graph.{Graph, lookup, ids}
 use Rattle.meaning.specs.Pattern.{var, op, Pattern, free}

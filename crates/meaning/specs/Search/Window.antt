@@ -1,5 +1,5 @@
 -- A pattern's words as a part of a list of nodes, and sets of its variables by their places. Assumes nothing.
-use Rattle.std.specs.Prelude.{ℕ, ◌+◌, ◌-◌, ◌^◌, ◌<◌, ◌≤◌, ◌≡◌, refl, List, map, ◌⊎◌, true, not, length}
+use Rattle.std.specs.Prelude.{ℕ, ◌+◌, ◌-◌, ◌^◌, ◌<◌, ◌≤◌, ◌≡◌, refl, List, map, ◌⊎◌, true, not, length, Option, None, Some}
 use Rattle.std.proofs.Common.{sym, ap, ◌∙◌, inl, inr, ⊎_elim, eq-eqb, ne_eqb, lt_of_le_of_lt, arith}
 use mathlib.Core.List.{Memᴰ as Mem}
 use Rattle.std.specs.Int.Bits.{bit_and, bit_or}
@@ -8,7 +8,6 @@ use Rattle.std.specs.Int.Count.{ones}
 use Rattle.std.proofs.Math.Pow.{pow-lt}
 use Rattle.std.proofs.lemmas.Bool.{not-true}
 use Rattle.meaning.specs.declared.Reg.{Reg}
-use Rattle.std.specs.Prelude.{Option, None, Some}
 use Rattle.meaning.specs.Tests.{and, apart, and_left, and_right, and_both, not_true_false}
 use Rattle.meaning.specs.Lists.{NoDup}
 use Rattle.meaning.specs.Words.{word}
