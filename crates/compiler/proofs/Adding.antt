@@ -7,6 +7,7 @@ use Rattle.meaning.specs.PatternWords.{kind_at, number_at}
 use Rattle.meaning.specs.Program.{reg}
 use Rattle.meaning.specs.Compiler.{item, reg_of}
 use Rattle.compiler.specs.declared.Compiler.{Compiler}
+use Rattle.compiler.specs.Lists.{held_in}
 use Rattle.compiler.specs.Local.{Local, local, view, Room, add_var, add_todo, add_all}
 
 -- at most n more of each
@@ -26,7 +27,7 @@ module _ (w : List ℕ) (place : ℕ) where
       go true (Some j) = record { code = rw length-append (omega arith); vars = omega arith; items = omega arith }
 
   -- one more, at the end
-  add_last : (k : ℕ) (cs : List ℕ) (c : ℕ) (l : Local) → add_all w place k (cs ++ (c ∷ [])) l ≡ add_todo w place c (reg (k + length cs)) (add_all w place k cs l)
+  pub add_last : (k : ℕ) (cs : List ℕ) (c : ℕ) (l : Local) → add_all w place k (cs ++ (c ∷ [])) l ≡ add_todo w place c (reg (k + length cs)) (add_all w place k cs l)
   unfolding add_all
   add_last k [] c l = rw add-zero
   add_last k (b ∷ cs) c l = let e : suc k + length cs ≡ k + suc (length cs) = omega arith in add_last (suc k) cs c (add_todo w place b (reg k) l) ∙ ap (λ n. add_todo w place c (reg n) (add_all w place (suc k) cs (add_todo w place b (reg k) l))) e
@@ -44,8 +45,8 @@ module _ (w : List ℕ) (place : ℕ) where
 pub room_less : (w : List ℕ) (place node : ℕ) (r : Reg) (c d : Compiler) (n x : ℕ) → view d ≡ add_todo w place node r (view c) → x < n → Room c (n - x) → Room d (n - (x + 1))
 room_less w place node r c d n x e h m =
     let g : Within 1 (view c) (view d) = rw e (add_within w place node r (view c)) in
-    let a : length d.code.items ≤ length c.code.items + 1 = simp length-map at g.code in
-    let b : length d.vars.items ≤ length c.vars.items + 1 = simp length-map at g.vars in
-    let f : length d.items.items ≤ length c.items.items + 1 = simp length-map at g.items in
+    let a : length (held_in d.code) ≤ length (held_in c.code) + 1 = simp length-map at g.code in
+    let b : length (held_in d.vars) ≤ length (held_in c.vars) + 1 = simp length-map at g.vars in
+    let f : length (held_in d.items) ≤ length (held_in c.items) + 1 = simp length-map at g.items in
     let i = m.code in let j = m.vars in let k = m.items in
     record { code = omega arith; vars = omega arith; items = omega arith }

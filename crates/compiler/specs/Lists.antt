@@ -1,15 +1,20 @@
 -- What the compiler's lists hold, and the order of the waiting items. Assumes nothing.
-use Rattle.std.specs.Prelude.{ℕ, ◌-◌, ◌^◌, List, map, get_or, Bool, eqb, ltb}
+use Rattle.std.specs.Prelude.{ℕ, ◌-◌, ◌^◌, List, map, take, get_or, Bool, eqb, ltb}
 use Rattle.std.specs.Int.Bits.{bit_and}
 use Rattle.std.specs.Int.Count.{ones}
 use Rattle.meaning.specs.Graph.{smaller}
 use Rattle.meaning.specs.Program.{reg, Held, held}
 use Rattle.meaning.specs.Compiler.{Item, item, late}
+use Rattle.compiler.specs.declared.list.BoundedList.{BoundedList}
 use Rattle.compiler.specs.declared.instr.Record.{Record}
 use Rattle.compiler.specs.declared.vars.Bound.{Bound}
 use Rattle.compiler.specs.declared.items.Item.{Item as Waiting}
 use Rattle.compiler.specs.declared.load.Weight.{Weight}
 use Rattle.compiler.specs.Records.{packed}
+
+-- what a bounded list holds: its cells that count
+abbrev pub held_in : {T : Type 0} {N : ℕ} → BoundedList T N → List T
+held_in l = take l.len l.cells
 
 -- the instructions' words
 abbrev pub codes_of : List Record → List (List ℕ)

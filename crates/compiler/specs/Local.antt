@@ -10,7 +10,7 @@ use Rattle.meaning.specs.Records.{alone, record_of}
 use Rattle.compiler.specs.declared.Compiler.{Compiler}
 use Rattle.compiler.specs.declared.TheConstants.Compiler.{MAX_INSTRUCTIONS, MAX_BOUND, MAX_WAITING}
 use Rattle.compiler.specs.declared.load.Weight.{Weight}
-use Rattle.compiler.specs.Lists.{codes_of, helds_of, items_of, free_count}
+use Rattle.compiler.specs.Lists.{held_in, codes_of, helds_of, items_of, free_count}
 
 pub record Local : Type 0 where
   pub code : List (List ℕ)
@@ -28,13 +28,13 @@ empty = local [] [] [] 0 0
 
 -- the compiler's lists, each as the definitions have it
 abbrev pub view : Compiler → Local
-view c = local (codes_of c.code.items) (helds_of c.vars.items) (items_of c.items.items) c.next.0 c.bound
+view c = local (codes_of (held_in c.code)) (helds_of (held_in c.vars)) (items_of (held_in c.items)) c.next.0 c.bound
 
 -- room for n more of each
 pub record Room (c : Compiler) (n : ℕ) : Type 0 where
-  pub code : length c.code.items + n ≤ MAX_INSTRUCTIONS
-  pub vars : length c.vars.items + n ≤ MAX_BOUND
-  pub items : length c.items.items + n ≤ MAX_WAITING
+  pub code : length (held_in c.code) + n ≤ MAX_INSTRUCTIONS
+  pub vars : length (held_in c.vars) + n ≤ MAX_BOUND
+  pub items : length (held_in c.items) + n ≤ MAX_WAITING
 
 -- without the waiting item at place b
 abbrev pub without : ℕ → Local → Local

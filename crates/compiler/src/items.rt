@@ -1,6 +1,6 @@
 ghost use Rattle.std.specs.Prelude.{◌≡◌, ℕ, ◌<◌, length, get_or};
 ghost use Rattle.meaning.specs.Compiler.{best};
-ghost use Rattle.compiler.specs.Lists.{no_item, free_count, goes_first};
+ghost use Rattle.compiler.specs.Lists.{held_in, no_item, free_count, goes_first};
 ghost use Rattle.compiler.specs.Local.{view, without};
 
 use crate::load::Weights;
@@ -48,10 +48,10 @@ impl Compiler {
     // definitions goes over them.
     #[tactic(auto, unfolding(meaning::specs::Compiler::best))]
     pub fn next(&self, weights: &Weights) -> usize
-        requires waiting { 0 < length self.now.items.items }
-        requires inside { (i : ℕ) → i < length self.now.items.items → (get_or self.now.items.items i no_item).node < Pattern.MAX_NODES }
-        ensures place { result ≡ best (goes_first weights.now self.now.bound) no_item self.now.items.items (length self.now.items.items) }
-        ensures inside { result < length self.now.items.items }
+        requires waiting { 0 < length (held_in self.now.items) }
+        requires inside { (i : ℕ) → i < length (held_in self.now.items) → (get_or (held_in self.now.items) i no_item).node < Pattern.MAX_NODES }
+        ensures place { result ≡ best (goes_first weights.now self.now.bound) no_item (held_in self.now.items) (length (held_in self.now.items)) }
+        ensures inside { result < length (held_in self.now.items) }
     {
         let items = self.items.as_slice();
         let mut b = 0;
@@ -66,9 +66,9 @@ impl Compiler {
     // Takes out the waiting item that goes before the others; these keep their order.
     #[tactic(auto, using(crate::proofs::Picking::taken_out))]
     pub fn pick(&mut self, weights: &Weights) -> Item
-        requires waiting { 0 < length self.old.items.items }
-        requires inside { (i : ℕ) → i < length self.old.items.items → (get_or self.old.items.items i no_item).node < Pattern.MAX_NODES }
-        ensures { let b = best (goes_first weights.now self.old.bound) no_item self.old.items.items (length self.old.items.items) in (result ≡ get_or self.old.items.items b no_item) × (view self.new ≡ without b (view self.old)) }
+        requires waiting { 0 < length (held_in self.old.items) }
+        requires inside { (i : ℕ) → i < length (held_in self.old.items) → (get_or (held_in self.old.items) i no_item).node < Pattern.MAX_NODES }
+        ensures { let b = best (goes_first weights.now self.old.bound) no_item (held_in self.old.items) (length (held_in self.old.items)) in (result ≡ get_or (held_in self.old.items) b no_item) × (view self.new ≡ without b (view self.old)) }
     {
         let b = self.next(weights);
         self.items.remove(b)

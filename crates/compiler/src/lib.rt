@@ -3,6 +3,7 @@
 pub mod compile;
 pub mod instr;
 pub mod items;
+pub mod list;
 pub mod load;
 pub mod sets;
 pub mod todo;
@@ -13,17 +14,17 @@ ghost use Rattle.compiler.specs.Local.{view, empty};
 
 use crate::instr::Record;
 use crate::items::Item;
+use crate::list::BoundedList;
 use crate::vars::Bound;
-use arrayvec::ArrayVec;
 use meaning::Reg;
 
 // What the compiler has so far: instructions, bound variables in binding order, waiting items, the
 // next register, and the set of the present pattern's variables that are bound.
-#[derive(Drop)]
+#[derive(Clone, Copy)]
 pub struct Compiler {
-    pub code: ArrayVec<Record, { Compiler::MAX_INSTRUCTIONS }>,
-    pub vars: ArrayVec<Bound, { Compiler::MAX_BOUND }>,
-    pub items: ArrayVec<Item, { Compiler::MAX_WAITING }>,
+    pub code: BoundedList<Record, { Compiler::MAX_INSTRUCTIONS }>,
+    pub vars: BoundedList<Bound, { Compiler::MAX_BOUND }>,
+    pub items: BoundedList<Item, { Compiler::MAX_WAITING }>,
     pub next: Reg,
     pub bound: u64,
 }
@@ -42,9 +43,9 @@ impl Compiler {
         ensures { view result ≡ empty }
     {
         Compiler {
-            code: ArrayVec::new(),
-            vars: ArrayVec::new(),
-            items: ArrayVec::new(),
+            code: BoundedList::new(),
+            vars: BoundedList::new(),
+            items: BoundedList::new(),
             next: Reg(0),
             bound: 0,
         }

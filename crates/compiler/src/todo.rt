@@ -28,7 +28,7 @@ impl Compiler {
             return;
         };
         let v = parts.number_at(node) as u32;
-        match vars::reg_of(&self.vars, v) {
+        match vars::reg_of(self.vars.as_slice(), v) {
             Some(first) => self.code.push(Record::from(Instr::Compare {
                 pattern: place,
                 from: r,

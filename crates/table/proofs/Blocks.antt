@@ -21,10 +21,10 @@ abbrev pub early : List ℕ → Layout → Span → ℕ → ℕ → ℕ → Bool
 early t l s o a k = before_block o a (node_at t l (s.first + k))
 
 module _ {t : List ℕ} {l : Layout} (s : Span) (r : Rising t l s) (o a : ℕ) where
-  run_rises : (j k : ℕ) → j < k → k < s.count → less (node_at t l (s.first + j)) (node_at t l (s.first + k)) ≡ true
+  pub run_rises : (j k : ℕ) → j < k → k < s.count → less (node_at t l (s.first + j)) (node_at t l (s.first + k)) ≡ true
   run_rises = rises_past less_trans (λ k. node_at t l (s.first + k)) s.count r.rising
 
-  block_falls : Falling (early t l s o a) s.count
+  pub block_falls : Falling (early t l s o a) s.count
   block_falls j k b c e = before_falls o a _ _ (run_rises j k b c) e
 
   -- the first that is not early
@@ -44,7 +44,7 @@ module _ {t : List ℕ} {l : Layout} (s : Span) (r : Rising t l s) (o a : ℕ) w
 
   module _ {side : ℕ → Ordering → Type 0} (tells : (k : ℕ) (c : Ordering) → side k c → MatchOrdering c (early t l s o a k ≡ true) (fits o a (node_at t l (s.first + k)) ≡ true) (early t l s o a k ≡ false)) where
     -- halving hits a node of the block
-    hit : (m : ℕ) → Hit side s.count m → Met t l s o a m
+    pub hit : (m : ℕ) → Hit side s.count m → Met t l s o a m
     hit m h = record {
       within = let w = h.within in omega arith;
       reached = not_past m fit;
@@ -55,7 +55,7 @@ module _ {t : List ℕ} {l : Layout} (s : Span) (r : Rising t l s) (o a : ℕ) w
         fit = tells m Equal h.equal
 
     -- or ends where one would stand
-    missed : (m : ℕ) → Gap side s.count m → Met t l s o a m
+    pub missed : (m : ℕ) → Gap side s.count m → Met t l s o a m
     missed m g = record { within = g.within; reached = let e = same in omega arith; fit = λ k c d. absurd (let e = same in omega arith) }
       where
         before : (k : ℕ) → k < m → early t l s o a k ≡ true
