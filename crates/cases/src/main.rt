@@ -5,12 +5,13 @@
 // starts with `#` is a title and is written out as it stands.
 mod line;
 
-use line::Line;
+use line::{Line, Words};
 use std::io;
 use std::io::Read;
 
 fn main(rt: HostRuntime) -> io::Result<()> {
     let mut line = Line::new();
+    let mut words = Words::new();
     let mut chunk = [0u8; 4096];
     let mut input = rt.stdin();
     let mut out = rt.stdout();
@@ -21,7 +22,7 @@ fn main(rt: HostRuntime) -> io::Result<()> {
             return Ok(());
         }
         for b in &chunk[..n] {
-            line.read(&mut out, *b)?;
+            line.read(&mut out, &mut words, *b)?;
         }
     }
     Ok(())

@@ -20,9 +20,10 @@ fn good_at(t: &Areas, x: usize) -> bool
     canonical(t, t.find_at(x))
 }
 
-// The find rule.
+// The find rule. The areas are copied, so that where they start is read once and not at each id.
 pub fn good(t: &Areas) -> bool
     ensures { result ≡ good_find t.now.words.now t.now.layout }
 {
-    (0..t.layout.i).all(|x| good_at(t, x))
+    let areas = *t;
+    (0..areas.layout.i).all(|x| good_at(&areas, x))
 }

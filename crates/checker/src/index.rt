@@ -12,7 +12,7 @@ fn good_at(t: &Areas, x: usize) -> bool
     ensures { result ≡ good_index_at t.now.words.now t.now.layout x }
 {
     let i = t.index_at(x);
-    i < t.layout.n && (x == 0 || t.key_at(t.index_at(x - 1)).before(&t.key_at(i)))
+    i < t.layout.n && (x == 0 || t.node_before(t.index_at(x - 1), i))
 }
 
 // The index rule. Each entry is tested where those before it have passed, which the closure of an `all`

@@ -26,7 +26,7 @@ fn good_member_at(t: &Areas, j: usize, k: usize) -> bool
     ensures { result ≡ good_member_at t.now.words.now t.now.layout j k }
 {
     let i = t.first_at(j) + k;
-    good_at(t, i) && t.owner_at(i) == t.id_at(j) && (k == 0 || t.key_at(i - 1).before(&t.key_at(i)))
+    good_at(t, i) && t.owner_at(i) == t.id_at(j) && (k == 0 || t.node_before(i - 1, i))
 }
 
 // The nodes of class j. Each is tested where those before it have passed, which the closure of an `all`
@@ -53,11 +53,13 @@ fn good_members(t: &Areas) -> bool
         && NodeKids(t).end_before(t.layout.n) == t.layout.k
 }
 
-// Whether each child is canonical.
+// Whether each child is canonical. The areas are copied, so that where they start is read once and not at
+// each child.
 fn good_children(t: &Areas) -> bool
     ensures { result ≡ good_children t.now.words.now t.now.layout }
 {
-    (0..t.layout.k).all(|x| find::canonical(t, t.child_at(x)))
+    let areas = *t;
+    (0..areas.layout.k).all(|x| find::canonical(&areas, areas.child_at(x)))
 }
 
 // The node rule.

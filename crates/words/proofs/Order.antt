@@ -1,13 +1,15 @@
 -- The derived order of keys, and the key order on nodes. Assumes nothing.
-use Rattle.std.proofs.Common.{ℕ, ◌<◌, ◌≡◌, true, List, [], ◌∷◌, length, Ordering, Less, Equal, Greater, sym, ◌∙◌, refl, arith}
+use Rattle.std.proofs.Common.{ℕ, ◌<◌, ◌≤◌, nat_lt, lt-ltb, le-ltb, ◌≡◌, true, List, [], ◌∷◌, length, Ordering, Less, Equal, Greater, sym, ◌∙◌, refl, arith}
 use Rattle.std.specs.Ordering.{ordering_then, nat_cmp, is_lt, MatchOrdering}
 use Rattle.std.specs.Cmp.{ranks}
 use Rattle.std.specs.Cmp.Lexicographic.{slice_cmp}
 use Rattle.meaning.specs.Tests.{not_true_false}
+use Rattle.meaning.specs.declared.Layout.{Layout}
+use Rattle.meaning.specs.Words.{op_at, node_at}
 use Rattle.meaning.specs.Graph.{Node, node, less_kids, less}
 use Rattle.words.specs.declared.key.Key.{Key}
 use Rattle.words.specs.Keys.{node_of}
-use Rattle.meaning.proofs.Laws.Keys.{smaller_lt, smaller_eq, less_irrefl, less_trans}
+use Rattle.meaning.proofs.Laws.Keys.{smaller_lt, smaller_gt, smaller_eq, less_irrefl, less_trans}
 
 along : (o : Ordering) {P Q R P' Q' R' : Type 0} → (P → P') → (Q → Q') → (R → R') → MatchOrdering o P Q R → MatchOrdering o P' Q' R'
 along Less f g h p = f p
@@ -56,3 +58,13 @@ pub first : (n m : Node) (o : Ordering) → MatchOrdering o (less n m ≡ true) 
 first n m Less h = sym h
 first n m Equal h = sym (not_true_false (less n m) (λ e. less_irrefl n (rw (← h) at e)))
 first n m Greater h = sym (not_true_false (less n m) (λ e. less_irrefl n (less_trans n m n e h)))
+
+-- nodes whose operators differ
+pub told_by_operators : (t : List ℕ) (l : Layout) (i j a b : ℕ) → a ≡ op_at t l i → b ≡ op_at t l j → (a ≡ b → ⊥) → nat_lt a b ≡ less (node_at t l i) (node_at t l j)
+unfolding node_at less
+told_by_operators t l i j a b e f d = go (nat_cmp a b) (ranks a b)
+  where
+    go : (p : Ordering) → MatchOrdering p (a < b) (a ≡ b) (b < a) → nat_lt a b ≡ less (node_at t l i) (node_at t l j)
+    go Less h = rw (lt-ltb a b h) (sym (smaller_lt _ _ _ (rw (← e, ← f) h)))
+    go Equal h = absurd (d h)
+    go Greater h = let k : b ≤ a = omega arith in rw (le-ltb a b k) (sym (smaller_gt _ _ _ (rw (← e, ← f) h)))

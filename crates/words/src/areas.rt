@@ -1,6 +1,7 @@
 ghost use Rattle.std.specs.Prelude.{◌≡◌, ℕ, ◌+◌, ◌<◌, ◌≤◌, length};
 ghost use Rattle.meaning.specs.Words.{word, find_at, record_word, node_word, id_at, first_at, count_at, op_at, arity_at, kid_at, owner_at, child_at, index_at, node_at};
 ghost use Rattle.meaning.specs.Good.{Placed};
+ghost use Rattle.meaning.specs.Graph.{less};
 
 use crate::key::Key;
 use meaning::Layout;
@@ -25,12 +26,13 @@ pub struct Areas<'a> {
 impl<'a> Areas<'a> {
     ghost use Rattle.words.specs.Keys.{node_of};
 
-    // find[x].
+    // find[x], by its place in the find list: a reader that follows find[find[x]] works out once where the
+    // list starts.
     pub fn find_at(&self, x: usize) -> usize
         requires { x < self.now.layout.i }
         ensures { (result ≡ find_at self.now.words.now self.now.layout x) × (result < 4294967296) }
     {
-        at(self.words, self.layout.find + x)
+        at(&self.words[self.layout.find..], x)
     }
 
     // Word f of class record j: what the reads of its fields below share. Each field keeps its name, since
@@ -139,5 +141,30 @@ impl<'a> Areas<'a> {
         ensures { node_of result ≡ node_at self.now.words.now self.now.layout i }
     {
         Key::new(self.op_at(i), self.children(i))
+    }
+
+    // Whether node i comes before node j. Operators that differ tell it at once.
+    #[inline(always)]
+    #[tactic(auto, using(crate::proofs::Order::told_by_operators))]
+    pub fn node_before(&self, i: usize, j: usize) -> bool
+        requires { (i < self.now.layout.n) × (kid_at self.now.words.now self.now.layout i + arity_at self.now.words.now self.now.layout i ≤ self.now.layout.k) × (j < self.now.layout.n) × (kid_at self.now.words.now self.now.layout j + arity_at self.now.words.now self.now.layout j ≤ self.now.layout.k) }
+        ensures { result ≡ less (node_at self.now.words.now self.now.layout i) (node_at self.now.words.now self.now.layout j) }
+    {
+        let op = self.op_at(i);
+        let other = self.op_at(j);
+        if op != other {
+            return op < other;
+        }
+        self.key_before(i, j)
+    }
+
+    // Whether node i comes before node j, by their keys. Kept apart from `node_before`, it leaves the loops that
+    // compare nodes their registers, and no key is written down.
+    #[inline(never)]
+    fn key_before(&self, i: usize, j: usize) -> bool
+        requires { (i < self.now.layout.n) × (kid_at self.now.words.now self.now.layout i + arity_at self.now.words.now self.now.layout i ≤ self.now.layout.k) × (j < self.now.layout.n) × (kid_at self.now.words.now self.now.layout j + arity_at self.now.words.now self.now.layout j ≤ self.now.layout.k) }
+        ensures { result ≡ less (node_at self.now.words.now self.now.layout i) (node_at self.now.words.now self.now.layout j) }
+    {
+        self.key_at(i).before(&self.key_at(j))
     }
 }
