@@ -11,8 +11,9 @@ pub fn canonical(t: &Areas, x: usize) -> bool
     x < t.layout.i && t.find_at(x) == x
 }
 
-// The find rule at x.
-#[tactic(auto, unfolding(meaning::specs::Refusal::good_find_at, meaning::specs::Refusal::is_canonical))]
+// The find rule at x. The lemmas `ands` serve the body of its must-fail edit, which reads twice and would be
+// refused for its form without them.
+#[tactic(auto, using(meaning::proofs::Laws::Ands::ands), unfolding(meaning::specs::Refusal::good_find_at, meaning::specs::Refusal::is_canonical))]
 fn good_at(t: &Areas, x: usize) -> bool
     requires { x < t.now.layout.i }
     ensures { result ≡ good_find_at t.now.words.now t.now.layout x }
