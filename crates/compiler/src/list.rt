@@ -1,9 +1,8 @@
-ghost use Rattle.std.specs.Prelude.{⊤, ◌≡◌, ◌≤◌, ◌<◌, [], ◌∷◌, ◌++◌, take, slice_index_or, remove};
+ghost use Rattle.std.specs.Prelude.{⊤, ◌≡◌, ◌≤◌, ◌<◌, [], ◌∷◌, ◌++◌, slice_index_or, remove};
 
 use std::alloc::AllocError;
 
-// A list of at most N, and Copy, as `ArrayVec` is not. The clauses spell out `held_in`: it names this
-// struct, so the file of the struct, which has a ghost field, can't use it.
+// A list of at most N, and Copy, as `ArrayVec` is not.
 pub struct BoundedList<T, const N: usize> {
     pub cells: [T; N],
     pub len: usize,
@@ -24,9 +23,11 @@ impl<T: Copy, const N: usize> Clone for BoundedList<T, N> {
 impl<T: Copy, const N: usize> Copy for BoundedList<T, N> {}
 
 impl<T: Copy + Default, const N: usize> BoundedList<T, N> {
+    ghost use Rattle.compiler.specs.Lists.{held_in};
+
     // The empty list.
     pub fn new() -> Self
-        ensures { take result.len result.cells ≡ [] }
+        ensures { held_in result ≡ [] }
     {
         BoundedList {
             cells: [T::default(); N],
@@ -36,9 +37,11 @@ impl<T: Copy + Default, const N: usize> BoundedList<T, N> {
 }
 
 impl<T: Copy, const N: usize> BoundedList<T, N> {
+    ghost use Rattle.compiler.specs.Lists.{held_in};
+
     // What the list holds.
     pub fn as_slice(&self) -> &[T]
-        ensures { result.now ≡ take self.now.len self.now.cells }
+        ensures { result.now ≡ held_in self.now }
     {
         &self.cells[..self.len]
     }
@@ -46,7 +49,7 @@ impl<T: Copy, const N: usize> BoundedList<T, N> {
     // Adds at the end.
     pub fn push(&mut self, x: T)
         requires { self.old.len < N }
-        ensures { take self.new.len self.new.cells ≡ take self.old.len self.old.cells ++ x ∷ [] }
+        ensures { held_in self.new ≡ held_in self.old ++ x ∷ [] }
     {
         self.cells[self.len] = x;
         self.len += 1;
@@ -56,8 +59,8 @@ impl<T: Copy, const N: usize> BoundedList<T, N> {
     #[tactic(auto, using(crate::proofs::Picking::moved_up))]
     pub fn remove(&mut self, index: usize) -> T
         requires { index < self.old.len }
-        ensures value { result ≡ slice_index_or (take self.old.len self.old.cells) index result }
-        ensures items { take self.new.len self.new.cells ≡ remove (take self.old.len self.old.cells) index }
+        ensures value { result ≡ slice_index_or (held_in self.old) index result }
+        ensures items { held_in self.new ≡ remove (held_in self.old) index }
     {
         let x = self.cells[index];
         self.cells.copy_within(index + 1..self.len, index);

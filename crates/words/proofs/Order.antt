@@ -1,5 +1,6 @@
 -- The derived order of keys, and the key order on nodes. Assumes nothing.
-use Rattle.std.proofs.Common.{ℕ, ◌<◌, ◌≤◌, nat_lt, lt-ltb, le-ltb, ◌≡◌, true, List, [], ◌∷◌, length, Ordering, Less, Equal, Greater, sym, ◌∙◌, refl, arith}
+use Rattle.std.proofs.Common.{ℕ, ◌<◌, ◌≤◌, nat_lt, lt-ltb, le-ltb, ◌≡◌, true, false, List, [], ◌∷◌, length, Ordering, Less, Equal, Greater, sym, ◌∙◌, refl, arith}
+use Rattle.std.specs.Prelude.{slice_index_or}
 use Rattle.std.specs.Ordering.{ordering_then, nat_cmp, is_lt, MatchOrdering}
 use Rattle.std.specs.Cmp.{ranks}
 use Rattle.std.specs.Cmp.Lexicographic.{slice_cmp}
@@ -68,3 +69,35 @@ told_by_operators t l i j a b e f d = go (nat_cmp a b) (ranks a b)
     go Less h = rw (lt-ltb a b h) (sym (smaller_lt _ _ _ (rw (← e, ← f) h)))
     go Equal h = absurd (d h)
     go Greater h = let k : b ≤ a = omega arith in rw (le-ltb a b k) (sym (smaller_gt _ _ _ (rw (← e, ← f) h)))
+
+-- where a key does not come before another, its operator does not
+pub no_earlier : (n m : Node) (a b : ℕ) (o : Ordering) → MatchOrdering o (less n m ≡ true) (n ≡ m) (less m n ≡ true) → is_lt o ≡ false → a ≡ n.op → b ≡ m.op → nat_lt a b ≡ less n m
+unfolding less
+no_earlier n m a b o h g e f = go (nat_cmp a b) (ranks a b)
+  where
+    late : less n m ≡ false
+    late = sym (first n m o h) ∙ g
+
+    go : (p : Ordering) → MatchOrdering p (a < b) (a ≡ b) (b < a) → nat_lt a b ≡ less n m
+    go Less l = rw (lt-ltb a b l) (sym (smaller_lt _ _ _ (rw (← e, ← f) l)))
+    go Equal q = let k : b ≤ a = omega arith in rw (le-ltb a b k) (sym late)
+    go Greater l = let k : b ≤ a = omega arith in rw (le-ltb a b k) (sym late)
+
+-- nor, of keys with one operator and arity, its first child
+pub no_lower_child : (n m : Node) (o : Ordering) → MatchOrdering o (less n m ≡ true) (n ≡ m) (less m n ≡ true) → is_lt o ≡ false → n.op ≡ m.op → length n.kids ≡ length m.kids → nat_lt (slice_index_or n.kids 0 0) (slice_index_or m.kids 0 0) ≡ less n m
+unfolding less less_kids
+no_lower_child n m o h g e f = go n.kids m.kids f (sym (smaller_eq _ _ _ f) ∙ sym (smaller_eq _ _ _ e) ∙ late) ∙ sym late
+  where
+    late : less n m ≡ false
+    late = sym (first n m o h) ∙ g
+
+    go : (x y : List ℕ) → length x ≡ length y → less_kids x y ≡ false → nat_lt (slice_index_or x 0 0) (slice_index_or y 0 0) ≡ false
+    go [] [] q k = refl
+    go [] (b ∷ y) q k = absurd (omega arith)
+    go (a ∷ x) [] q k = absurd (omega arith)
+    go (a ∷ x) (b ∷ y) q k = one (nat_cmp a b) (ranks a b)
+      where
+        one : (p : Ordering) → MatchOrdering p (a < b) (a ≡ b) (b < a) → nat_lt a b ≡ false
+        one Less l = rw (lt-ltb a b l) (sym (smaller_lt a b _ l) ∙ k)
+        one Equal q = let j : b ≤ a = omega arith in le-ltb a b j
+        one Greater l = let j : b ≤ a = omega arith in le-ltb a b j

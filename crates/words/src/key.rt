@@ -34,8 +34,9 @@ impl<'a> Key<'a> {
         self.cmp(other)
     }
 
-    // Whether this key comes before the other.
-    #[tactic(auto, using(crate::proofs::Order::first))]
+    // Whether this key comes before the other. The last two lemmas serve the bodies of its must-fail edits, which
+    // compare again and would be refused for their form without them.
+    #[tactic(auto, using(crate::proofs::Order::first, crate::proofs::Order::no_earlier, crate::proofs::Order::no_lower_child))]
     pub fn before(&self, other: &Key) -> bool
         ensures { result ≡ less (node_of self.now) (node_of other.now) }
     {
