@@ -1,4 +1,4 @@
-ghost use Rattle.std.specs.Prelude.{⊤, ◌≡◌, ◌≤◌, ◌<◌, [], ◌∷◌, ◌++◌, slice_index_or, remove};
+ghost use Rattle.std.specs.Prelude.{⊤, ◌≡◌, ◌≤◌, ◌<◌, [], ◌∷◌, ◌++◌, length, slice_index_or, remove};
 
 use std::alloc::AllocError;
 
@@ -48,7 +48,7 @@ impl<T: Copy, const N: usize> BoundedList<T, N> {
 
     // Adds at the end.
     pub fn push(&mut self, x: T)
-        requires { self.old.len < N }
+        requires { length (held_in self.old) < N }
         ensures { held_in self.new ≡ held_in self.old ++ x ∷ [] }
     {
         self.cells[self.len] = x;
@@ -66,5 +66,21 @@ impl<T: Copy, const N: usize> BoundedList<T, N> {
         self.cells.copy_within(index + 1..self.len, index);
         self.len -= 1;
         x
+    }
+}
+
+#[cfg(test)]
+mod tests {
+    use super::*;
+
+    // What the clauses say of a list is enough to add to it again, and to fill it.
+    #[test]
+    fn a_list_is_filled_by_hand(rt: HostRuntime) {
+        let mut list: BoundedList<u32, 2> = BoundedList::new();
+        list.push(7);
+        list.push(8);
+        assert_eq!(rt; list.as_slice(), [7, 8].as_slice());
+        assert_eq!(rt; list.remove(0), 7);
+        assert_eq!(rt; list.as_slice(), [8].as_slice());
     }
 }
